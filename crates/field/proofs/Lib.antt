@@ -1,0 +1,9 @@
+pub mod BitsLaws
+pub mod BytesLaws
+pub mod Codes
+pub mod Fermat
+pub mod Linear
+pub mod Remainders
+pub mod ResiduesLaws
+pub mod Tables
+pub mod Upto

@@ -1,0 +1,4 @@
+pub mod Field
+pub mod OfBits
+pub mod OfBytes
+pub mod OfResidues
