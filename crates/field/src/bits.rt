@@ -17,8 +17,9 @@ pub impl Field for Bits as BitsField {
         (a % Self::Q) ^ (b % Self::Q)
     }
 
+    // Every code is its own negative.
     fn sub(a: u16, b: u16) -> u16 {
-        (a % Self::Q) ^ (b % Self::Q)
+        Self::add(a, b)
     }
 
     fn mul(a: u16, b: u16) -> u16 {

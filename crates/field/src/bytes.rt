@@ -26,8 +26,9 @@ pub impl Field for Bytes as BytesField {
         (a % Self::Q) ^ (b % Self::Q)
     }
 
+    // Every code is its own negative.
     fn sub(a: u16, b: u16) -> u16 {
-        (a % Self::Q) ^ (b % Self::Q)
+        Self::add(a, b)
     }
 
     // Codes other than 0 are powers of 2, and there are 255 of them: logarithms add modulo 255.

@@ -29,15 +29,15 @@ pub impl Field for Residues as ResiduesField {
 
     // By Fermat's little theorem the inverse of a is its power 255, which eight squarings give.
     fn inverse(a: u16) -> Option<u16> {
-        let mut square = u32::from(a) % 257;
+        let mut square = a % Self::Q;
         if square == 0 {
             return None;
         }
-        let mut power = 1u32;
+        let mut power = 1;
         for _turn in 0..8u8 {
-            power = power * square % 257;
-            square = square * square % 257;
+            power = Self::mul(power, square);
+            square = Self::mul(square, square);
         }
-        Some(power as u16)
+        Some(power)
     }
 }

@@ -1,0 +1,4 @@
+pub mod Filled
+pub mod Filling
+pub mod Packets
+pub mod Spelling

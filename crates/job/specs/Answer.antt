@@ -1,0 +1,29 @@
+-- What the program writes for what it reads.
+use mathlib.Core.List.{List}
+use Prim.Native.Nat.{ℕ}
+use lib.ListN.{length}
+use Rattle.std.specs.declared.result.Result.the-variants.{Ok, Err}
+use Rattle.refusal.specs.Numbers.{numbered}
+use Rattle.field.specs.OfBits.{bits}
+use Rattle.field.specs.OfBytes.{bytes}
+use Rattle.field.specs.OfResidues.{residues}
+use Rattle.file.specs.Packets.{packets}
+use Rattle.file.specs.Spelling.{spellingOf}
+use Rattle.job.specs.declared.line.FieldKind.{FieldKind}
+use Rattle.job.specs.declared.line.FieldKind.the-variants.{Bits, Bytes, Residues}
+use Rattle.job.specs.Line.{Asked, parsed}
+use Rattle.job.specs.Output.{refused-text, whole-text}
+
+-- the order of the field that a job asks for
+abbrev pub order-of : FieldKind → ℕ
+order-of Bits = bits .q
+order-of Bytes = bytes .q
+order-of Residues = residues .q
+
+-- a job that is not refused writes its count of packets and the file that it was handed, byte for byte
+abbrev pub carried-text : FieldKind → List ℕ → List ℕ
+carried-text field file = whole-text (packets (spellingOf (order-of field)) (length file)) file
+
+-- the answer to any bytes
+abbrev pub answered : List ℕ → List ℕ
+answered input = elim (parsed input) [ Ok job ↦ carried-text (job .field) (job .file) | Err refusal ↦ refused-text (numbered refusal) ]

@@ -1,0 +1,63 @@
+//! The program's answer to its input.
+ghost use mathlib.Core.Path.{_≡_};
+ghost use Prim.Native.Nat.{_≤_};
+ghost use lib.ListN.{length};
+ghost use Rattle.std.specs.Of.Vec.{vec-items};
+ghost use Rattle.std.specs.Vec.{made};
+ghost use Rattle.file.specs.Packets.{packets};
+ghost use Rattle.file.specs.Spelling.{spellingOf};
+ghost use Rattle.job.specs.Answer.{answered, carried-text};
+ghost use Rattle.job.specs.Output.{whole-text};
+use super::carry::carry;
+use super::line::FieldKind;
+use super::line::parse;
+use super::output;
+use field::Bits;
+use field::BitsField;
+use field::Bytes;
+use field::BytesField;
+use field::Field;
+use field::Residues;
+use field::ResiduesField;
+use file::FILE_MOST;
+use file::packet_count;
+use std::alloc::AllocError;
+use std::alloc::Global;
+
+/// What the program writes for this input.
+pub fn answer(heap: Global, input: &[u8]) -> Result<Vec<u8>, AllocError>
+    ensures { λ r. ⌜ made r (λ v. vec-items v ≡ answered (now (input .entry))) ⌝ }
+{
+    match parse(input) {
+        Ok(job) => carried(heap, job.field, job.file),
+        Err(refusal) => output::refused(heap, refusal),
+    }
+}
+
+// The file is carried in the field that the job asks for.
+fn carried(heap: Global, field: FieldKind, file: &[u8]) -> Result<Vec<u8>, AllocError>
+    requires { ⌜ length (now file) ≤ 16000 ⌝ }
+    ensures { λ r. ⌜ made r (λ v. vec-items v ≡ carried-text field (now (file .entry))) ⌝ }
+{
+    match field {
+        FieldKind::Bits => copied::<Bits>(heap, file),
+        FieldKind::Bytes => copied::<Bytes>(heap, file),
+        FieldKind::Residues => copied::<Residues>(heap, file),
+    }
+}
+
+// What is shown is the record's copy, not the file that came in.
+fn copied<F: Field>(heap: Global, file: &[u8]) -> Result<Vec<u8>, AllocError>
+    requires { ⌜ length (now file) ≤ 16000 ⌝ }
+    ensures { λ r. ⌜ made r (λ v. vec-items v ≡ whole-text (packets (spellingOf (means .q)) (length (now (file .entry)))) (now (file .entry))) ⌝ }
+{
+    let mut buffer = [0; FILE_MOST];
+    let packets = packet_count::<F>(file.len() as u32);
+    match carry::<F>(file, &mut buffer) {
+        Ok(whole) => match whole.show(&buffer) {
+            Ok(shown) => output::whole(heap, packets, shown),
+            Err(refusal) => output::refused(heap, refusal),
+        },
+        Err(refusal) => output::refused(heap, refusal),
+    }
+}

@@ -1,0 +1,48 @@
+//! The three fields, written another way: no table of powers, no Fermat, an inverse by trying every code.
+
+#[derive(Clone, Copy, PartialEq, Eq, Debug)]
+pub enum Field {
+    Bits,
+    Bytes,
+    Residues,
+}
+
+impl Field {
+    pub fn order(self) -> u32 {
+        match self {
+            Field::Bits => 2,
+            Field::Bytes => 256,
+            Field::Residues => 257,
+        }
+    }
+
+    /// The product of two codes.
+    pub fn mul(self, a: u32, b: u32) -> u32 {
+        match self {
+            Field::Bits => a & b,
+            Field::Bytes => peasant(a, b),
+            Field::Residues => a * b % 257,
+        }
+    }
+
+    /// The one code whose product with a is 1, found by trying all.
+    pub fn inverse(self, a: u32) -> Option<u32> {
+        (0..self.order()).find(|&b| self.mul(a, b) == 1)
+    }
+}
+
+/// Multiplication by doubling and adding: b's bits are used up one by one, and a is doubled and reduced each time.
+fn peasant(mut a: u32, mut b: u32) -> u32 {
+    let mut sum = 0;
+    while b != 0 {
+        if b & 1 == 1 {
+            sum ^= a;
+        }
+        b >>= 1;
+        a <<= 1;
+        if a >= 256 {
+            a ^= 0x11D;
+        }
+    }
+    sum
+}

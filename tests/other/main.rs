@@ -1,0 +1,97 @@
+//! Another implementation of the protocol, written from docs/PROTOCOL.md, and the runs that compare the two.
+//!
+//!     other HAUL [SEED]     HAUL is the built program
+//!
+//! Prints a line for each comparison, and last 'N passed, M failed'.
+
+mod field;
+mod jobs;
+mod program;
+mod random;
+
+use field::Field;
+use random::Random;
+use std::io::Write;
+use std::process::{Command, Stdio};
+
+unsafe extern "C" {
+    safe fn lambjade_bytes_mul(a: u16, b: u16) -> u16;
+    safe fn lambjade_bytes_inverse(a: u16) -> u16;
+    safe fn lambjade_residues_mul(a: u16, b: u16) -> u16;
+    safe fn lambjade_residues_inverse(a: u16) -> u16;
+}
+
+type Check = Result<String, String>;
+
+/// All products of two codes and all inverses, against the proved field's.
+fn tables(field: Field, mul: extern "C" fn(u16, u16) -> u16, inverse: extern "C" fn(u16) -> u16) -> Check {
+    let q = field.order();
+    for a in 0..q {
+        for b in 0..q {
+            let (here, there) = (field.mul(a, b), u32::from(mul(a as u16, b as u16)));
+            if here != there {
+                return Err(format!("{field:?}: {a} times {b} is {here} here and {there} there"));
+            }
+        }
+        let (here, there) = (field.inverse(a).unwrap_or(0), u32::from(inverse(a as u16)));
+        if here != there {
+            return Err(format!("{field:?}: the inverse of {a} is {here} here and {there} there"));
+        }
+    }
+    Ok(format!("{field:?}: {} products and {q} inverses agree", q * q))
+}
+
+/// What the built program writes for the input; it has to end with status 0.
+fn run(haul: &str, input: &[u8]) -> Result<Vec<u8>, String> {
+    let mut child = Command::new(haul)
+        .stdin(Stdio::piped())
+        .stdout(Stdio::piped())
+        .spawn()
+        .map_err(|e| format!("{haul} does not start: {e}"))?;
+    let mut stdin = child.stdin.take().expect("a pipe");
+    let bytes = input.to_vec();
+    let writer = std::thread::spawn(move || stdin.write_all(&bytes));
+    let output = child.wait_with_output().map_err(|e| e.to_string())?;
+    let _ = writer.join();
+    if !output.status.success() {
+        return Err(format!("{haul} ends with {}", output.status));
+    }
+    Ok(output.stdout)
+}
+
+fn show(bytes: &[u8]) -> String {
+    String::from_utf8_lossy(&bytes[..bytes.len().min(80)]).into_owned()
+}
+
+fn compare(haul: &str, jobs: &[Vec<u8>], what: &str) -> Check {
+    for (i, job) in jobs.iter().enumerate() {
+        let (here, there) = (program::answer(job), run(haul, job)?);
+        if here != there {
+            return Err(format!("{what}, job {i}, {:?}: {:?} here, {:?} there", show(job), show(&here), show(&there)));
+        }
+    }
+    Ok(format!("{what}: {} jobs agree", jobs.len()))
+}
+
+fn main() {
+    let mut arguments = std::env::args().skip(1);
+    let haul = arguments.next().expect("the path of the built program");
+    let seed = arguments.next().map_or(1, |s| s.parse().expect("a number as the seed"));
+    let mut random = Random::new(seed);
+    let chosen: Vec<Vec<u8>> = (0..300).map(|_| jobs::job(&mut random)).collect();
+    let checks = [
+        tables(Field::Bytes, lambjade_bytes_mul, lambjade_bytes_inverse),
+        tables(Field::Residues, lambjade_residues_mul, lambjade_residues_inverse),
+        compare(&haul, &jobs::edges(), "edges"),
+        compare(&haul, &chosen, &format!("seed {seed}")),
+    ];
+    let failed = checks.iter().filter(|c| c.is_err()).count();
+    for check in &checks {
+        match check {
+            Ok(said) => println!("other: ok, {said}"),
+            Err(said) => println!("other: FAILED, {said}"),
+        }
+    }
+    println!("{} passed, {failed} failed", checks.len() - failed);
+    std::process::exit(i32::from(failed > 0));
+}
