@@ -16,6 +16,14 @@ impl Field {
         }
     }
 
+    /// The difference of two codes.
+    pub fn sub(self, a: u32, b: u32) -> u32 {
+        match self {
+            Field::Bits | Field::Bytes => a ^ b,
+            Field::Residues => (a + 257 - b) % 257,
+        }
+    }
+
     /// The product of two codes.
     pub fn mul(self, a: u32, b: u32) -> u32 {
         match self {

@@ -41,7 +41,7 @@ pub fn parse(input: &[u8]) -> Result<Job, u32> {
 fn carried(job: &Job) -> Vec<u8> {
     let bytes_a_packet = if job.field == Field::Bits { 16 } else { 128 };
     let packets = (4 + job.file.len()).div_ceil(bytes_a_packet);
-    let mut out = format!("packets {packets}\nwhole {}\n", job.file.len()).into_bytes();
+    let mut out = format!("packets {packets}\nframes {packets}\nwhole {}\n", job.file.len()).into_bytes();
     out.extend_from_slice(&job.file);
     out
 }

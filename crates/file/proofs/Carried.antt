@@ -1,29 +1,26 @@
 -- A packet of a file: 128 codes, which spell the bytes that it carries.
-use mathlib.Core.Bool.{true}
 use mathlib.Core.List.{List, map}
-use mathlib.Core.Path.{_≡_, refl, sym, ap, _∙_}
+use mathlib.Core.Path.{_≡_, refl, ap, _∙_}
 use Prim.Native.Nat.{ℕ, _+_, _*_, _/_, _%_, _^_, _<_, _≤_}
 use native.Mathlib.Nat.{mod-lt}
 use native.Mathlib.Omega.{arith}
-use lib.Dec.{ltb, lit<}
+use lib.Dec.{lit<}
 use lib.ListN.{length, getD}
 use Rattle.std.specs.Holes.{between}
 use Rattle.std.specs.Iters.{counting}
 use Rattle.std.specs.shelf.Digits.{number, Under}
 use Rattle.std.proofs.shelf.Counted.{fill-by-all, getD-map-counting, length-map-counting}
 use Rattle.std.proofs.shelf.Edits.{getD-between}
-use Rattle.std.proofs.shelf.Elements.{all-from-getD}
-use Rattle.std.proofs.shelf.Tests.{cases-lt}
+use Rattle.std.proofs.shelf.Elements.{all-from-getD, all-weaker}
 use Rattle.file.specs.declared.spelling.Spelling.{Spelling}
 use Rattle.file.specs.Filled.{File}
-use Rattle.file.specs.Filling.{below, lengthIn}
+use Rattle.file.specs.Filling.{lengthIn}
 use Rattle.file.specs.Packets.{loaded, packetOf, symbolOf}
 use Rattle.file.specs.Spelling.{Known, byteOf, digit, spelled, spellingOf}
 use Rattle.file.proofs.Counts.{room-least}
 use Rattle.file.proofs.Digits.{length-part, number-spelled}
 use Rattle.file.proofs.Loads.{length-byte, loaded-byte, loaded-length}
-use Rattle.file.proofs.Spellings.{both, base-code, known}
-use Rattle.file.proofs.Steps.{under-below}
+use Rattle.file.proofs.Spellings.{base-code, both, known}
 
 pub packet-length : (s : Spelling) (file : List ℕ) (k : ℕ) → length (packetOf s file k) ≡ 128
 unfolding packetOf
@@ -37,12 +34,18 @@ base-pos : (s : Spelling) → Known s → 0 < s .base
 base-pos = both (λ s. 0 < s .base) (lit< tt) (lit< tt)
 
 -- each symbol is a digit
-pub packet-digits : (s : Spelling) → Known s → (file : List ℕ) (k limit : ℕ) → s .base ≤ limit → below limit (packetOf s file k) ≡ true
-packet-digits s sk file k limit le =
-    under-below limit (packetOf s file k) (all-from-getD (λ x. x < limit) (packetOf s file k) 0
+pub packet-digits : (s : Spelling) → Known s → (file : List ℕ) (k : ℕ) → Under (s .base) (packetOf s file k)
+packet-digits s sk file k =
+    all-from-getD (λ x. x < s .base) (packetOf s file k) 0
     (λ i h.
     let m : symbolOf s file k i < s .base = mod-lt _ (base-pos s sk) in
-    omega (arith, m, packet-symbol s file k i (omega (arith, packet-length s file k)))))
+    omega (arith, m, packet-symbol s file k i (omega (arith, packet-length s file k))))
+
+-- and so a code
+pub packet-codes : (q : ℕ) → 2 ≤ q → (file : List ℕ) (k : ℕ) → Under q (packetOf (spellingOf q) file k)
+packet-codes q two file k =
+    all-weaker (λ x. x < spellingOf q .base) (λ x. x < q) (λ x h. omega (arith, base-code q two)) (packetOf (spellingOf q) file k)
+    (packet-digits (spellingOf q) (known q) file k)
 
 -- symbol i of those of byte j
 at-byte : (s : Spelling) → Known s → (j i : ℕ) → j < s .room → i < s .digits

@@ -1,6 +1,6 @@
 -- The number of packets that a file takes.
 use mathlib.Core.Path.{_≡_}
-use Prim.Native.Nat.{ℕ, _+_, _-_, _*_, _/_, _%_, _^_, _<_, _≤_, min}
+use Prim.Native.Nat.{ℕ, _+_, _*_, _/_, _%_, _^_, _<_, _≤_, min}
 use native.Mathlib.Omega.{arith}
 use Rattle.file.specs.declared.spelling.Spelling.{Spelling}
 use Rattle.file.specs.Spelling.{Known}

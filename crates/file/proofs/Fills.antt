@@ -3,23 +3,23 @@ use mathlib.Core.Bool.{true, false}
 use mathlib.Core.List.{List}
 use mathlib.Core.Logic.{inl, inr}
 use mathlib.Core.Path.{_≡_, refl, sym, ap, subst, _∙_}
-use Prim.Native.Nat.{ℕ, _+_, _-_, _*_, _<_, _≤_, min}
-use native.Mathlib.Nat.{le-refl, mul-add, mul-one}
+use Prim.Native.Nat.{ℕ, _+_, _-_, _*_, _<_, _≤_}
+use native.Mathlib.Nat.{mul-add, mul-one}
 use native.Mathlib.Omega.{arith}
-use lib.ListN.{length, getD, take, length-take}
+use lib.ListN.{length, getD, take}
 use Rattle.std.proofs.shelf.Counted.{getD-map-counting}
 use Rattle.std.proofs.shelf.Lists.{ext-getD, getD-take, length-take-le}
-use Rattle.std.proofs.shelf.Tests.{cases-bool, cases-eq, cases-lt, both-ways, le-leb, leb-true, leb-false, lt-leb}
+use Rattle.std.proofs.shelf.Tests.{cases-eq, cases-lt, both-ways, le-leb, lt-leb}
 use Rattle.file.specs.declared.spelling.Spelling.{Spelling}
 use Rattle.file.specs.Filled.{File, Filled, Fills, Took}
 use Rattle.file.specs.Filling.{Outcome, adding, below, bufferWith, byteWith, complete, lengthIn, sizeWith, taking}
 use Rattle.file.specs.Packets.{loaded, packets, packetOf}
-use Rattle.file.specs.Spelling.{Known, byteOf, spellingOf}
-use Rattle.file.proofs.Carried.{packet-byte, packet-digits, packet-first, packet-length}
-use Rattle.file.proofs.Counts.{packets-hold, packets-least, packets-pos, room-least}
+use Rattle.file.specs.Spelling.{Known, spellingOf}
+use Rattle.file.proofs.Carried.{packet-byte, packet-codes, packet-digits, packet-first, packet-length}
+use Rattle.file.proofs.Counts.{packets-hold, packets-least, packets-pos}
 use Rattle.file.proofs.Loads.{loaded-file}
-use Rattle.file.proofs.Spellings.{base-code, known}
-use Rattle.file.proofs.Steps.{adds-bytes, size-first, size-later, takes-none, takes-one}
+use Rattle.file.proofs.Spellings.{known}
+use Rattle.file.proofs.Steps.{adds-bytes, size-first, size-later, takes-none, takes-one, under-below}
 use Rattle.file.proofs.Writes.{written, left}
 
 module _ (s : Spelling) (sk : Known s) (file : List ℕ) (k taken size : ℕ) (buffer : List ℕ) (filled : Filled s file k taken size buffer) where
@@ -141,6 +141,6 @@ fills q two packet taken size buffer after e file k f enough filled is =
     subst (Took s file (k + 1))
     (sym (e ∙ adds-bytes q taken size packet buffer enough
     (ap length is ∙ packet-length s file k)
-    (ap (below q) is ∙ packet-digits s (known q) file k q (base-code q two))
-    (ap (below (s .base)) is ∙ packet-digits s (known q) file k (s .base) (le-refl (s .base)))))
+    (ap (below q) is ∙ under-below q _ (packet-codes q two file k))
+    (ap (below (s .base)) is ∙ under-below (s .base) _ (packet-digits s (known q) file k))))
     (takes s (known q) packet taken size buffer file k f enough filled is)

@@ -1,7 +1,7 @@
 -- The cases of taking and adding a packet.
-use mathlib.Core.Bool.{true, false, not, _&&_}
+use mathlib.Core.Bool.{true, false, _&&_}
 use mathlib.Core.List.{List}
-use mathlib.Core.Path.{_≡_, refl, sym, ap, _∙_}
+use mathlib.Core.Path.{_≡_, refl, ap, _∙_}
 use Prim.Native.Nat.{ℕ, _+_, _*_, _<_, _≤_}
 use native.Mathlib.Omega.{arith}
 use lib.Dec.{eqb, ltb}
@@ -13,7 +13,7 @@ use Rattle.std.specs.Orderings.{Decides}
 use Rattle.std.specs.declared.result.Result.the-variants.{Ok, Err}
 use Rattle.std.specs.shelf.Digits.{Under}
 use Rattle.file.specs.declared.spelling.Spelling.{Spelling}
-use Rattle.file.specs.Filling.{Outcome, below, complete, lengthIn, sizeWith, bufferWith, taking, adding}
+use Rattle.file.specs.Filling.{below, complete, lengthIn, sizeWith, bufferWith, taking, adding}
 use Rattle.file.specs.Spelling.{Known, spellingOf}
 use Rattle.file.proofs.Spellings.{both}
 

@@ -13,8 +13,8 @@ pub record File (file : List ℕ) : Type 0 where
   pub short : length file ≤ 16000
   pub bytes : (i : ℕ) → getD file i 0 < 256
 
--- the first k packets of the file, and perhaps more zeros, were taken in order: those up to its end are counted, its
--- length is known from the first on, and every byte that they hold stands at its place in the buffer
+-- the first k packets of the file were taken in order: those past its end are not counted, its length is known from
+-- the first one on, and every byte of it that they hold stands at its place in the buffer
 pub record Filled (s : Spelling) (file : List ℕ) (k taken size : ℕ) (buffer : List ℕ) : Type 0 where
   pub counted : taken ≡ min k (packets s (length file))
   pub known : 0 < k → size ≡ length file

@@ -47,14 +47,14 @@ bufferWith s taken size packet buffer = map (byteWith s taken size packet buffer
 abbrev pub Outcome : Type 0
 Outcome = Result (Unit {0}) Refusal × ℕ × ℕ × List ℕ
 
--- taking a packet of bytes: it is past the end, or its length is too long, or it is written
+-- taking a packet of bytes: past the file's end it changes nothing, a length over 16,000 is refused, all else is written
 unfoldable pub taking : Spelling → ℕ → ℕ → List ℕ → List ℕ → Outcome
 taking s taken size packet buffer =
     cond (complete s taken size) (Ok tt, taken, size, buffer)
     (cond (ltb 16000 (sizeWith s taken size packet)) (Err LongRecord, taken, size, buffer)
     (Ok tt, taken + 1, sizeWith s taken size packet, bufferWith s taken (sizeWith s taken size packet) packet buffer))
 
--- adding any numbers in a field of order q
+-- adding any list of numbers, in a field of order q
 unfoldable pub adding : ℕ → ℕ → ℕ → List ℕ → List ℕ → Outcome
 adding q taken size packet buffer =
     cond (ltb (length buffer) 16000) (Err ShortBuffer, taken, size, buffer)

@@ -1,9 +1,9 @@
-//! The record that puts a file's packets together again.
+//! The record that a file's packets fill.
 ghost use mathlib.Core.Bool.{true, false};
 ghost use mathlib.Core.List.{List};
 ghost use mathlib.Core.Path.{_≡_};
 ghost use Prim.Native.Nat.{ℕ, _+_, _*_, _<_, _≤_};
-ghost use lib.ListN.{length, take};
+ghost use lib.ListN.{length};
 ghost use Rattle.refusal.specs.declared.Refusal.the-variants.{Incomplete, ShortBuffer};
 ghost use Rattle.std.specs.declared.result.Result.the-variants.{Ok, Err};
 ghost use Rattle.std.specs.shelf.Digits.{Under};
@@ -14,6 +14,7 @@ ghost use Rattle.file.specs.Spelling.{spellingOf, Known};
 use super::FILE_MOST;
 use super::SYMBOLS;
 use super::spelling::Spelling;
+use super::whole::Whole;
 use field::Field;
 use refusal::Refusal;
 use std::marker::PhantomData;
@@ -25,13 +26,6 @@ pub struct Filling<F> {
     // The file's length, or 0 while no packet has told it.
     size: usize,
     field: PhantomData<F>,
-    ghost short: { size ≤ 16000 },
-}
-
-/// A record of a file that is all there.
-#[derive(Drop)]
-pub struct Whole {
-    size: usize,
     ghost short: { size ≤ 16000 },
 }
 
@@ -119,26 +113,6 @@ impl<F: Field> Filling<F> {
         } else {
             Err((self, Refusal::Incomplete))
         }
-    }
-}
-
-impl Whole {
-    /// The file's length.
-    pub fn length(&self) -> usize
-        ensures { λ r. ⌜ r ≡ now (self .entry) .size ⌝ }
-    {
-        self.size
-    }
-
-    /// The file, in the buffer that its packets were added to.
-    pub fn show<'a>(&self, buffer: &'a [u8]) -> Result<&'a [u8], Refusal>
-        ensures exact { λ r. ⌜ elim r [ Ok shown ↦ (16000 ≤ length (now (buffer .entry))) × (now shown ≡ take (now (self .entry) .size) (now (buffer .entry))) | Err why ↦ (length (now (buffer .entry)) < 16000) × (why ≡ ShortBuffer) ] ⌝ }
-        ensures shows { λ r. ⌜ ((q : ℕ) (file : List ℕ) (k taken : ℕ) → Filled (spellingOf q) file k taken (now (self .entry) .size) (now (buffer .entry)) → packets (spellingOf q) (length file) ≤ k → elim r [ Ok shown ↦ now shown ≡ file | Err why ↦ length (now (buffer .entry)) < 16000 ]) ⌝ }
-    {
-        if buffer.len() < FILE_MOST {
-            return Err(Refusal::ShortBuffer);
-        }
-        Ok(&buffer[..self.size])
     }
 }
 

@@ -1,11 +1,14 @@
-//! The packets of a file: its length in four bytes, the highest first, the file's bytes, and zero bytes to the end.
+//! The packets of a file.
 ghost use mathlib.Core.Path.{_≡_};
 ghost use Prim.Native.Nat.{ℕ, _+_, _*_, _≤_, _<_};
 ghost use lib.Dec.{ltb};
 ghost use lib.ListN.{length, getD};
 ghost use mathlib.Core.Bool.{cond};
 ghost use Rattle.refusal.specs.declared.Refusal.the-variants.{LongFile};
+ghost use Rattle.std.specs.Vec.{made};
+ghost use Rattle.std.specs.shelf.Digits.{Under};
 ghost use Rattle.std.specs.declared.result.Result.the-variants.{Ok, Err};
+ghost use Rattle.file.specs.Filled.{File};
 ghost use Rattle.file.specs.Packets.{loaded, packets, packetOf};
 ghost use Rattle.file.specs.Spelling.{spellingOf};
 use super::FILE_MOST;
@@ -25,7 +28,9 @@ pub fn packet_count<F: Field>(size: u32) -> u32
 
 /// Packet `number` of the file, which is zeros where the file ended before it.
 pub fn packet<F: Field>(file: &[u8], number: u32) -> Result<[u16; 128], Refusal>
-    ensures { λ r. ⌜ r ≡ cond (ltb 16000 (length (now (file .entry)))) (Err LongFile) (Ok (packetOf (spellingOf (means .q)) (now (file .entry)) number)) ⌝ }
+    ensures exact { λ r. ⌜ r ≡ cond (ltb 16000 (length (now (file .entry)))) (Err LongFile) (Ok (packetOf (spellingOf (means .q)) (now (file .entry)) number)) ⌝ }
+    ensures codes { λ r. ⌜ made r (λ p. (length p ≡ 128) × Under (means .q) p) ⌝ }
+    ensures carries { λ r. ⌜ made r (λ _. File (now (file .entry))) ⌝ }
 {
     if file.len() > FILE_MOST {
         return Err(Refusal::LongFile);

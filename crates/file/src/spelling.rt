@@ -20,6 +20,7 @@ pub(crate) struct Spelling {
 }
 
 impl Spelling {
+    /// How the symbols of the field spell bytes.
     pub(crate) fn of<F: Field>() -> Spelling
         ensures exact { λ r. ⌜ r ≡ spellingOf (means .q) ⌝ }
         ensures known { λ r. ⌜ Known r ⌝ }

@@ -20,9 +20,13 @@ order-of Bits = bits .q
 order-of Bytes = bytes .q
 order-of Residues = residues .q
 
--- a job that is not refused writes its count of packets and the file that it was handed, byte for byte
+-- a file in a field of order q: its count of packets, as many frames, and the file itself, byte for byte
+abbrev pub copied-text : ℕ → List ℕ → List ℕ
+copied-text q file = whole-text (packets (spellingOf q) (length file)) (packets (spellingOf q) (length file)) file
+
+-- a job that is not refused writes the file that it was handed
 abbrev pub carried-text : FieldKind → List ℕ → List ℕ
-carried-text field file = whole-text (packets (spellingOf (order-of field)) (length file)) file
+carried-text field file = copied-text (order-of field) file
 
 -- the answer to any bytes
 abbrev pub answered : List ℕ → List ℕ

@@ -13,6 +13,7 @@ line word n = word ++ (decimal n ++ (10 ∷ []))
 abbrev pub refused-text : ℕ → List ℕ
 refused-text number = line (codes "job ") number
 
--- a file that came through in so many packets
-abbrev pub whole-text : ℕ → List ℕ → List ℕ
-whole-text packets file = line (codes "packets ") packets ++ (line (codes "whole ") (length file) ++ file)
+-- a file that came through in so many packets and frames
+abbrev pub whole-text : ℕ → ℕ → List ℕ → List ℕ
+whole-text packets frames file =
+    line (codes "packets ") packets ++ (line (codes "frames ") frames ++ (line (codes "whole ") (length file) ++ file))

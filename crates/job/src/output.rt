@@ -17,12 +17,17 @@ pub(crate) fn refused(heap: Global, refusal: Refusal) -> Result<Vec<u8>, AllocEr
     Ok(text.into_bytes())
 }
 
-/// The count of packets, the file's length, and the file itself.
-pub(crate) fn whole(heap: Global, packets: u32, file: &[u8]) -> Result<Vec<u8>, AllocError>
-    ensures { λ r. ⌜ made r (λ v. vec-items v ≡ whole-text packets (now (file .entry))) ⌝ }
+/// The counts of packets and of frames, the file's length, and the file itself.
+pub(crate) fn whole(
+    heap: Global,
+    packets: u32,
+    frames: u32,
+    file: &[u8],
+) -> Result<Vec<u8>, AllocError>
+    ensures { λ r. ⌜ made r (λ v. vec-items v ≡ whole-text packets frames (now (file .entry))) ⌝ }
 {
     let length = file.len();
-    let text = format!(heap, "packets {packets}\nwhole {length}\n")?;
+    let text = format!(heap, "packets {packets}\nframes {frames}\nwhole {length}\n")?;
     let mut bytes = text.into_bytes();
     bytes.extend_from_slice(file)?;
     Ok(bytes)

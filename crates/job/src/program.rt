@@ -4,19 +4,19 @@ ghost use Prim.Native.Nat.{_≤_};
 ghost use lib.ListN.{length};
 ghost use Rattle.std.specs.Of.Vec.{vec-items};
 ghost use Rattle.std.specs.Vec.{made};
-ghost use Rattle.file.specs.Packets.{packets};
-ghost use Rattle.file.specs.Spelling.{spellingOf};
-ghost use Rattle.job.specs.Answer.{answered, carried-text};
-ghost use Rattle.job.specs.Output.{whole-text};
+ghost use Rattle.job.specs.Answer.{answered, carried-text, copied-text};
 use super::carry::carry;
 use super::line::FieldKind;
 use super::line::parse;
 use super::output;
+use carried::BitsCarried;
+use carried::BytesCarried;
+use carried::Carried;
+use carried::ResiduesCarried;
 use field::Bits;
 use field::BitsField;
 use field::Bytes;
 use field::BytesField;
-use field::Field;
 use field::Residues;
 use field::ResiduesField;
 use file::FILE_MOST;
@@ -47,17 +47,20 @@ fn carried(heap: Global, field: FieldKind, file: &[u8]) -> Result<Vec<u8>, Alloc
 }
 
 // What is shown is the record's copy, not the file that came in.
-fn copied<F: Field>(heap: Global, file: &[u8]) -> Result<Vec<u8>, AllocError>
+fn copied<C: Carried>(heap: Global, file: &[u8]) -> Result<Vec<u8>, AllocError>
     requires { ⌜ length (now file) ≤ 16000 ⌝ }
-    ensures { λ r. ⌜ made r (λ v. vec-items v ≡ whole-text (packets (spellingOf (means .q)) (length (now (file .entry)))) (now (file .entry))) ⌝ }
+    ensures { λ r. ⌜ made r (λ v. vec-items v ≡ copied-text (C·Field .means .q) (now (file .entry))) ⌝ }
 {
     let mut buffer = [0; FILE_MOST];
-    let packets = packet_count::<F>(file.len() as u32);
-    match carry::<F>(file, &mut buffer) {
-        Ok(whole) => match whole.show(&buffer) {
-            Ok(shown) => output::whole(heap, packets, shown),
-            Err(refusal) => output::refused(heap, refusal),
-        },
+    let packets = packet_count::<C>(file.len() as u32);
+    match carry::<C>(file, &mut buffer) {
+        Ok(came) => {
+            let (frames, whole) = came;
+            match whole.show(&buffer) {
+                Ok(shown) => output::whole(heap, packets, frames, shown),
+                Err(refusal) => output::refused(heap, refusal),
+            }
+        }
         Err(refusal) => output::refused(heap, refusal),
     }
 }

@@ -13,7 +13,7 @@ div-ceil-requires g c κs = let m = room-least _ (c .of .ensures .known) in omeg
 
 pub cast-result : need.cast-result
 cast-result g c =
-    let e = c .div-ceil .ensures ∙ packets-ceil _ (c .of .ensures .known) (c .args .size) in
+    let e = packets-ceil _ (c .of .ensures .known) (c .args .size) in
     let m = packets-fit _ (c .of .ensures .known) (c .args .size) (omega arith) in
     omega arith
 

@@ -1,11 +1,10 @@
 use mathlib.Core.List.{List}
-use mathlib.Core.Path.{_≡_, sym, ap, subst, _∙_}
-use Prim.Native.Nat.{ℕ, _<_, _+_}
+use mathlib.Core.Path.{_≡_, sym, ap, _∙_}
+use Prim.Native.Nat.{ℕ, _+_}
 use native.Mathlib.Omega.{arith}
 use Rattle.std.specs.declared.result.Result.the-variants.{Ok}
-use Rattle.std.specs.shelf.Digits.{Under}
 use Rattle.file.specs.declared.spelling.Spelling.{Spelling}
-use Rattle.file.specs.Filling.{Outcome, bufferWith, sizeWith}
+use Rattle.file.specs.Filling.{bufferWith, sizeWith}
 use Rattle.file.specs.Spelling.{spellingOf}
 use Rattle.file.proofs.Spellings.{known}
 use Rattle.file.proofs.Steps.{few, takes-none, takes-long, takes-one}

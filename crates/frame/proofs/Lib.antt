@@ -1,0 +1,6 @@
+pub mod Every
+pub mod Frames
+pub mod Heads
+pub mod Parts
+pub mod Reports
+pub mod Verdicts

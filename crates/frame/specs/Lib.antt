@@ -1,0 +1,4 @@
+pub mod DataFrame
+pub mod Head
+pub mod Proper
+pub mod ReportFrame
