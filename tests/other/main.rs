@@ -1,10 +1,12 @@
 //! Another implementation of the protocol, written from docs/PROTOCOL.md, and the runs that compare the two.
 //!
-//!     other HAUL [SEED]     HAUL is the built program
+//!     other PROGRAMS [SEED]     PROGRAMS is the folder of the built programs
 //!
 //! Prints a line for each comparison, and last 'N passed, M failed'.
 
+mod damage;
 mod field;
+mod frame;
 mod jobs;
 mod program;
 mod random;
@@ -42,19 +44,19 @@ fn tables(field: Field, mul: extern "C" fn(u16, u16) -> u16, inverse: extern "C"
 }
 
 /// What the built program writes for the input; it has to end with status 0.
-fn run(haul: &str, input: &[u8]) -> Result<Vec<u8>, String> {
-    let mut child = Command::new(haul)
+fn run(program: &str, input: &[u8]) -> Result<Vec<u8>, String> {
+    let mut child = Command::new(program)
         .stdin(Stdio::piped())
         .stdout(Stdio::piped())
         .spawn()
-        .map_err(|e| format!("{haul} does not start: {e}"))?;
+        .map_err(|e| format!("{program} does not start: {e}"))?;
     let mut stdin = child.stdin.take().expect("a pipe");
     let bytes = input.to_vec();
     let writer = std::thread::spawn(move || stdin.write_all(&bytes));
     let output = child.wait_with_output().map_err(|e| e.to_string())?;
     let _ = writer.join();
     if !output.status.success() {
-        return Err(format!("{haul} ends with {}", output.status));
+        return Err(format!("{program} ends with {}", output.status));
     }
     Ok(output.stdout)
 }
@@ -73,15 +75,37 @@ fn compare(haul: &str, jobs: &[Vec<u8>], what: &str) -> Check {
     Ok(format!("{what}: {} jobs agree", jobs.len()))
 }
 
+/// What a frame and every damage to one of its bytes are read as.
+fn readings(inspect: &str, frame: &[u8], what: &str) -> Check {
+    let frames = damage::damaged(frame);
+    let there = String::from_utf8(run(inspect, &damage::capture(&frames))?).map_err(|e| e.to_string())?;
+    let mut lines = there.split_inclusive('\n');
+    for (i, frame) in frames.iter().enumerate() {
+        let (here, there) = (damage::say(frame), lines.next().unwrap_or("nothing"));
+        if here != there {
+            return Err(format!("{what}, damage {i}: {here} here, {there} there"));
+        }
+    }
+    match lines.next() {
+        None => Ok(format!("{what}: {} readings agree", frames.len())),
+        Some(more) => Err(format!("{what}: {more} more there")),
+    }
+}
+
 fn main() {
     let mut arguments = std::env::args().skip(1);
-    let haul = arguments.next().expect("the path of the built program");
+    let programs = arguments.next().expect("the folder of the built programs");
+    let (haul, inspect) = (format!("{programs}/haul"), format!("{programs}/inspect"));
     let seed = arguments.next().map_or(1, |s| s.parse().expect("a number as the seed"));
     let mut random = Random::new(seed);
     let chosen: Vec<Vec<u8>> = (0..300).map(|_| jobs::job(&mut random)).collect();
     let checks = [
         tables(Field::Bytes, lambjade_bytes_mul, lambjade_bytes_inverse),
         tables(Field::Residues, lambjade_residues_mul, lambjade_residues_inverse),
+        readings(&inspect, &damage::full(Field::Bits, &mut random), "data in bits"),
+        readings(&inspect, &damage::full(Field::Bytes, &mut random), "data in bytes"),
+        readings(&inspect, &damage::full(Field::Residues, &mut random), "data in residues"),
+        readings(&inspect, &[4, 0, 0, 1, 2, 0, 1, 0, 0], "reports"),
         compare(&haul, &jobs::edges(), "edges"),
         compare(&haul, &chosen, &format!("seed {seed}")),
     ];
