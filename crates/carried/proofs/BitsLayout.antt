@@ -75,14 +75,21 @@ same-map : (f g : ℕ → ℕ) (n : ℕ) → ((k : ℕ) → k < n → f k ≡ g 
 same-map f g n same =
     fill-by-all g (map f (counting 0 n)) n 0 (length-map-counting f 0 n) (λ k h. getD-map-counting f 0 n k k 0 h (omega arith) ∙ same k h)
 
+bit-of : (bs : List ℕ) (n k j : ℕ) → n * 1 ≡ 8 * length bs → k < length bs → j < 8 → getD (unpacked eight-a-byte n bs) (8 * k + j) 0 ≡ getD bs k 0 / 2 ^ (7 - j) % 2
+bit-of bs n k j e h b =
+    let d : (8 * k + j) / 8 ≡ k = omega arith in
+    let r : (8 * k + j) % 8 ≡ j = omega arith in
+    unpacked-at eight-a-byte n bs (8 * k + j) (omega arith)
+    ∙ ap (λ (g : ℕ). getD bs g 0 / 2 ^ (7 - (8 * k + j) % 8) % 2) d
+    ∙ ap (λ (t : ℕ). getD bs k 0 / 2 ^ (7 - t) % 2) r
+
 written-at : (bs : List ℕ) (n k : ℕ) → Under 256 bs → n * 1 ≡ 8 * length bs → k < length bs → getD bs k 0 ≡ eight-a-byte .byte-of (unpacked eight-a-byte n bs) k
 unfolding digits
 written-at bs n k u e h =
-    let bit : (j : ℕ) → j < 8 → getD bs k 0 / 2 ^ (7 - j) % 2 % 2 ≡ getD (unpacked eight-a-byte n bs) (8 * k + j) 0 % 2 = λ j b.
-    let d : (8 * k + j) / 8 ≡ k = omega arith in
-    let r : (8 * k + j) % 8 ≡ j = omega arith in
-    sym (ap (λ (x : ℕ). x % 2) (unpacked-at eight-a-byte n bs (8 * k + j) (omega arith) ∙ ap (λ (g : ℕ). getD bs g 0 / 2 ^ (7 - (8 * k + j) % 8) % 2) d ∙ ap (λ (t : ℕ). getD bs k 0 / 2 ^ (7 - t) % 2) r)) in
-    sym (together (getD bs k 0) (u k h)) ∙ ap (number 2) (same-map (λ j. getD bs k 0 / 2 ^ (7 - j) % 2 % 2) (λ j. getD (unpacked eight-a-byte n bs) (8 * k + j) 0 % 2) 8 bit)
+    let f : ℕ → ℕ = λ j. getD bs k 0 / 2 ^ (7 - j) % 2 % 2 in
+    let g : ℕ → ℕ = λ j. getD (unpacked eight-a-byte n bs) (8 * k + j) 0 % 2 in
+    sym (together (getD bs k 0) (u k h))
+    ∙ ap (number 2) (same-map f g 8 (λ j b. sym (ap (λ (x : ℕ). x % 2) (bit-of bs n k j e h b))))
 
 pub eight-a-byte-lays : Lays 32 2 eight-a-byte
 eight-a-byte-lays = record {

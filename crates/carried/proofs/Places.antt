@@ -6,7 +6,7 @@ use Prim.Native.Nat.{ℕ, _+_, _-_, _<_}
 use native.Mathlib.Omega.{arith}
 use lib.ListN.{length, getD, take, drop}
 use Rattle.std.specs.Iters.{counting}
-use Rattle.std.proofs.shelf.Counted.{getD-map-counting, fill-by-all}
+use Rattle.std.proofs.shelf.Counted.{getD-map-counting, length-map-counting, fill-by-all}
 use Rattle.std.proofs.shelf.Lists.{getD-past, getD-drop, take-rest}
 use Rattle.std.proofs.shelf.Tests.{cases-lt}
 use Rattle.carried.specs.Carries.{Carries, Under, packed, unpacked}
@@ -18,6 +18,14 @@ below n xs pos u k =
       | inl h ↦ u k h
       | inr h ↦ subst (λ (x : ℕ). x < n) (sym (getD-past xs k 0 h)) pos
     ]
+
+pub length-packed : (c : Carries) (n : ℕ) (codes : List ℕ) → length (packed c n codes) ≡ n
+unfolding packed
+length-packed c n codes = length-map-counting (c .byte-of codes) 0 n
+
+pub length-unpacked : (c : Carries) (n : ℕ) (bytes : List ℕ) → length (unpacked c n bytes) ≡ n
+unfolding unpacked
+length-unpacked c n bytes = length-map-counting (c .code-of bytes) 0 n
 
 pub packed-at : (c : Carries) (m : ℕ) (xs : List ℕ) (k : ℕ) → k < m → getD (packed c m xs) k 0 ≡ c .byte-of xs k
 unfolding packed

@@ -19,10 +19,8 @@ low xs k e = cond-false (eqb (k % 2) 0) _ _ (ne-eqb (k % 2) 0 (λ z. omega arith
 
 read-at : (xs : List ℕ) (n i : ℕ) → length xs * 16 ≡ 8 * n → i < length xs → getD xs i 0 ≡ two-bytes .code-of (packed two-bytes n xs) i
 read-at xs n i e h =
-    let first : getD (packed two-bytes n xs) (2 * i) 0 ≡ getD xs i 0 / 256 =
-    packed-at two-bytes n xs (2 * i) (omega arith) ∙ high xs (2 * i) (omega arith) ∙ ap (λ (j : ℕ). getD xs j 0 / 256) (omega arith) in
-    let second : getD (packed two-bytes n xs) (2 * i + 1) 0 ≡ getD xs i 0 % 256 =
-    packed-at two-bytes n xs (2 * i + 1) (omega arith) ∙ low xs (2 * i + 1) (omega arith) ∙ ap (λ (j : ℕ). getD xs j 0 % 256) (omega arith) in
+    let first : getD (packed two-bytes n xs) (2 * i) 0 ≡ getD xs i 0 / 256 = packed-at two-bytes n xs (2 * i) (omega arith) ∙ high xs (2 * i) (omega arith) ∙ ap (λ (j : ℕ). getD xs j 0 / 256) (omega arith) in
+    let second : getD (packed two-bytes n xs) (2 * i + 1) 0 ≡ getD xs i 0 % 256 = packed-at two-bytes n xs (2 * i + 1) (omega arith) ∙ low xs (2 * i + 1) (omega arith) ∙ ap (λ (j : ℕ). getD xs j 0 % 256) (omega arith) in
     omega (arith, first, second)
 
 written-at : (bs : List ℕ) (n k : ℕ) → Under 256 bs → n * 16 ≡ 8 * length bs → k < length bs → getD bs k 0 ≡ two-bytes .byte-of (unpacked two-bytes n bs) k

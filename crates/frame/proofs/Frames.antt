@@ -1,81 +1,29 @@
 -- Data frames: writing and reading undo each other, and what can be read is proper.
-use mathlib.Core.Bool.{Bool, true, false, cond, _&&_}
 use mathlib.Core.List.{List, [], _∷_, _++_}
 use mathlib.Core.Path.{_≡_, refl, sym, ap, subst, _∙_}
-use mathlib.Core.Logic.{inl, inr}
-use Prim.Native.Nat.{ℕ, _+_, _-_, _*_, _/_, _%_, _^_, _<_, _≤_}
+use Prim.Native.Nat.{ℕ, _+_, _-_, _*_, _/_, _%_, _<_, _≤_}
 use native.Mathlib.Nat.{add-mul, mul-assoc}
 use native.Mathlib.Omega.{arith}
-use lib.Dec.{eqb, leb, ltb, lit<}
+use lib.Dec.{lit<}
 use lib.ListN.{length, getD, take, drop}
 use Rattle.std.specs.Vec.{made, refused}
 use Rattle.std.specs.declared.option.Option.{Option}
 use Rattle.std.specs.declared.option.Option.the-variants.{Some, None}
 use Rattle.std.specs.declared.result.Result.{Result}
 use Rattle.std.specs.declared.result.Result.the-variants.{Ok, Err}
-use Rattle.std.proofs.shelf.Counted.{length-map-counting}
 use Rattle.std.proofs.shelf.Equals.{text-from-reads}
-use Rattle.std.proofs.shelf.Lists.{take-append-drop, take-at, drop-at, getD-past, getD-drop, length-drop, length-append, length-take, length-take-le, getD-take, take-rest}
-use Rattle.std.proofs.shelf.Tests.{and-parts, and-from, cond-true, leb-true, le-leb, ltb-true, lt-ltb, eqb-true, eq-eqb, cases-lt}
+use Rattle.std.proofs.shelf.Lists.{take-append-drop, take-at, drop-at, getD-drop, length-drop, length-append, length-take, length-take-le, getD-take, take-rest}
 use Rattle.refusal.specs.declared.Refusal.{Refusal}
-use Rattle.refusal.specs.declared.Refusal.the-variants.{BadWidth, BadCode, StraySlot}
 use Rattle.field.specs.Field.{Means}
-use Rattle.frame.specs.declared.data.Data.{Data}
 use Rattle.carried.specs.Carries.{Carries, Lays, Under, packed, unpacked}
-use Rattle.frame.specs.DataFrame.{every, fits-stream, codes-only, none-stray, flaw, bytes-for, frame-of, contents-by, contents, reading, writing}
+use Rattle.carried.proofs.Places.{below, length-packed, length-unpacked}
+use Rattle.frame.specs.declared.data.Data.{Data}
+use Rattle.frame.specs.DataFrame.{flaw, bytes-for, frame-of, contents-by, contents, reading, writing}
 use Rattle.frame.specs.Head.{misfit, too-short, first, verdict, written, four-bytes, number-at}
 use Rattle.frame.specs.Proper.{Proper}
-use Rattle.frame.proofs.Every.{every-at, every-from}
 use Rattle.frame.proofs.Heads.{fitting, fitted, number-back, bytes-back}
-use Rattle.carried.proofs.Places.{below}
+use Rattle.frame.proofs.Rules.{proper, flawless}
 use Rattle.frame.proofs.Verdicts.{first-later, first-none, roomy, verdict-made, written-made, written-refused}
-
-pub length-packed : (c : Carries) (n : ℕ) (codes : List ℕ) → length (packed c n codes) ≡ n
-unfolding packed
-length-packed c n codes = length-map-counting (c .byte-of codes) 0 n
-
-pub length-unpacked : (c : Carries) (n : ℕ) (bytes : List ℕ) → length (unpacked c n bytes) ≡ n
-unfolding unpacked
-length-unpacked c n bytes = length-map-counting (c .code-of bytes) 0 n
-
--- the three tests that contents without a flaw pass
-passed : (x y z : Bool) → cond x (cond y (cond z None (Some StraySlot)) (Some BadCode)) (Some BadWidth) ≡ None → (x ≡ true) × (y ≡ true) × (z ≡ true)
-passed true true true e = (refl, refl, refl)
-passed true true false e = absurd (let z : _≡_ {A = ℕ} 0 1 = cc in omega arith)
-passed true false z e = absurd (let z : _≡_ {A = ℕ} 0 1 = cc in omega arith)
-passed false y z e = absurd (let z : _≡_ {A = ℕ} 0 1 = cc in omega arith)
-
-pub proper : (q w : ℕ) (d : Data) → length (d .slots) ≡ w → length (d .symbols) ≡ 128 → flaw q w d ≡ None → Proper q w d
-proper q w d s y e =
-    let all = passed (fits-stream w d) (codes-only q d) (none-stray d) e in
-    let fits = and-parts (leb 1 (d .width) && leb (d .width) w) (leb (d .base + d .width) 65536) (all .0) in
-    let wide = and-parts (leb 1 (d .width)) (leb (d .width) w) (fits .0) in
-    let codes = and-parts (every (λ x. ltb x q) (d .slots)) (every (λ x. ltb x q) (d .symbols)) (all .1) in
-    record {
-      least = leb-true _ _ (wide .0);
-      most = leb-true _ _ (wide .1);
-      in-stream = leb-true _ _ (fits .1);
-      slot-count = s;
-      symbol-count = y;
-      slot-codes = λ k h. ltb-true _ _ (every-at (λ x. ltb x q) (d .slots) (codes .0) k h);
-      symbol-codes = λ k h. ltb-true _ _ (every-at (λ x. ltb x q) (d .symbols) (codes .1) k h);
-      none-past = λ i h. elim (cases-lt i (length (d .slots))) [
-        | inl b ↦
-            let in′ : i - d .width < length (drop (d .width) (d .slots)) = simp length-drop (omega arith) in
-            let at = getD-drop (d .width) (d .slots) (i - d .width) 0 in
-            let zero = eqb-true _ _ (every-at (λ x. eqb x 0) (drop (d .width) (d .slots)) (all .2) (i - d .width) in′) in
-            ap (λ (j : ℕ). getD (d .slots) j 0) (omega arith) ∙ sym at ∙ zero
-        | inr b ↦ getD-past (d .slots) i 0 b
-      ];
-    }
-
-pub flawless : (q w : ℕ) (d : Data) → Proper q w d → flaw q w d ≡ None
-flawless q w d p =
-    let fits = and-from _ _ (and-from _ _ (le-leb 1 (d .width) (p .least)) (le-leb (d .width) w (p .most))) (le-leb (d .base + d .width) 65536 (p .in-stream)) in
-    let below-q : (xs : List ℕ) → Under q xs → every (λ x. ltb x q) xs ≡ true = λ xs u. every-from (λ x. ltb x q) xs (λ k h. lt-ltb _ _ (u k h)) in
-    let codes = and-from _ _ (below-q (d .slots) (p .slot-codes)) (below-q (d .symbols) (p .symbol-codes)) in
-    let none = every-from (λ x. eqb x 0) (drop (d .width) (d .slots)) (λ k h. eq-eqb _ _ (getD-drop (d .width) (d .slots) k 0 ∙ p .none-past (d .width + k) (omega arith))) in
-    cond-true _ _ _ fits ∙ cond-true _ _ _ codes ∙ cond-true _ _ _ none
 
 under-take : (m k : ℕ) (xs : List ℕ) → Under m xs → Under m (take k xs)
 under-take m k xs u i h =
@@ -128,20 +76,26 @@ module _ (m : Means) {w : ℕ} {c : Carries} (lays : Lays w (m .q) c) (whole : w
       let eighths : n ≡ 8 * (n / 8) = omega arith in
       ap (λ (k : ℕ). k * c .eight) eighths ∙ mul-assoc 8 (n / 8) (c .eight)
 
+  unpacked-back : (codes : List ℕ) (n : ℕ) → Under (m .q) codes → n % 8 ≡ 0 → length codes ≡ n → unpacked c n (packed c (bytes-for c n) codes) ≡ codes
+  unpacked-back codes n u e l =
+      ap (λ (k : ℕ). unpacked c k (packed c (bytes-for c n) codes)) (sym l)
+      ∙ lays .codes-back codes (bytes-for c n) u (ap (λ (k : ℕ). k * c .eight) l ∙ fill-bytes n e)
+
+  packed-back : (bs : List ℕ) (n : ℕ) → Under 256 bs → n % 8 ≡ 0 → length bs ≡ bytes-for c n → packed c (bytes-for c n) (unpacked c n bs) ≡ bs
+  packed-back bs n u e l =
+      ap (λ (k : ℕ). packed c k (unpacked c n bs)) (sym l)
+      ∙ lays .bytes-back bs n u (fill-bytes n e ∙ ap (λ (k : ℕ). 8 * k) (sym l))
+
   -- the contents of a frame that was written are those that it was written from
   contents-back : (d : Data) → Proper (m .q) w d → contents c w (frame-of c w d) ≡ d
   contents-back d p =
       let n = bytes-for c w in
       let S = packed c n (d .slots) in
       let Y = packed c (bytes-for c 128) (d .symbols) in
-      let slots : unpacked c w (take n (S ++ Y)) ≡ d .slots =
-      ap (unpacked c w) (take-at S Y n (length-packed c n (d .slots)))
-      ∙ ap (λ (k : ℕ). unpacked c k S) (sym (p .slot-count))
-      ∙ lays .codes-back (d .slots) n (p .slot-codes) (ap (λ (k : ℕ). k * c .eight) (p .slot-count) ∙ fill-bytes w whole) in
-      let symbols : unpacked c 128 (drop n (S ++ Y)) ≡ d .symbols = ap (unpacked c 128) (drop-at S Y n (length-packed c n (d .slots)))
-      ∙ ap (λ (k : ℕ). unpacked c k Y) (sym (p .symbol-count))
-      ∙ lays .codes-back (d .symbols) (bytes-for c 128) (p .symbol-codes) (ap (λ (k : ℕ). k * c .eight) (p .symbol-count) ∙ fill-bytes 128 refl) in
+      let long = length-packed c n (d .slots) in
       let base = number-back (d .base) (let b = p .in-stream in omega arith) in
+      let slots = ap (unpacked c w) (take-at S Y n long) ∙ unpacked-back (d .slots) w (p .slot-codes) whole (p .slot-count) in
+      let symbols = ap (unpacked c 128) (drop-at S Y n long) ∙ unpacked-back (d .symbols) 128 (p .symbol-codes) refl (p .symbol-count) in
       same-data _ (d .base) (d .width) (d .width) _ (d .slots) _ (d .symbols) base refl slots symbols
 
   frame-length : (d : Data) → length (frame-of c w d) ≡ c .len
@@ -166,11 +120,6 @@ module _ (m : Means) {w : ℕ} {c : Carries} (lays : Lays w (m .q) c) (whole : w
       text-from-reads (take 6 bs) (c .kind ∷ getD bs 1 0 ∷ getD bs 2 0 ∷ getD bs 3 0 ∷ getD bs 4 0 ∷ getD bs 5 0 ∷ []) (length-take-le 6 bs h)
       (at 0 (lit< tt) ∙ k, (at 1 (lit< tt), (at 2 (lit< tt), (at 3 (lit< tt), (at 4 (lit< tt), (at 5 (lit< tt), tt))))))
       ∙ ap (λ (xs : List ℕ). c .kind ∷ xs ++ getD bs 5 0 ∷ []) (sym four)
-
-  packed-back : (bs : List ℕ) (n : ℕ) → Under 256 bs → n % 8 ≡ 0 → length bs ≡ bytes-for c n → packed c (bytes-for c n) (unpacked c n bs) ≡ bs
-  packed-back bs n u e l =
-      ap (λ (k : ℕ). packed c k (unpacked c n bs)) (sym l)
-      ∙ lays .bytes-back bs n u (fill-bytes n e ∙ ap (λ (k : ℕ). 8 * k) (sym l))
 
   frame-back : (bs : List ℕ) → Under 256 bs → getD bs 0 0 ≡ c .kind → length bs ≡ c .len → bs ≡ frame-of c w (contents c w bs)
   frame-back bs u k l =

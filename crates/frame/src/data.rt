@@ -20,8 +20,8 @@ use refusal::Refusal;
 pub struct Data {
     pub base: u32,
     pub width: u8,
-    pub slots: [u16; 32],
-    pub symbols: [u16; 128],
+    pub slots: [u16; WINDOW],
+    pub symbols: [u16; SYMBOLS],
 }
 
 // Kind, base and width.
@@ -104,9 +104,9 @@ fn contents<C: Carried>(base: u32, width: u8, body: &[u8]) -> Data
     ensures { λ r. ⌜ r ≡ contents-by carries 32 base width (now (body .entry)) ⌝ }
 {
     let (slot_part, symbol_part) = body.split_at(slot_bytes::<C>());
-    let mut slots = [0; 32];
+    let mut slots = [0; WINDOW];
     C::unpack(slot_part, &mut slots);
-    let mut symbols = [0; 128];
+    let mut symbols = [0; SYMBOLS];
     C::unpack(symbol_part, &mut symbols);
     Data {
         base,

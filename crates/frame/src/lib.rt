@@ -66,8 +66,8 @@ mod tests {
         Data {
             base,
             width,
-            slots: [0; 32],
-            symbols: [0; 128],
+            slots: [0; WINDOW],
+            symbols: [0; SYMBOLS],
         }
     }
 

@@ -1,14 +1,15 @@
 use mathlib.Core.List.{List, [], _∷_, _++_}
-use mathlib.Core.Path.{_≡_, refl, sym, ap, _∙_}
+use mathlib.Core.Path.{_≡_, refl, ap, _∙_}
 use Prim.Native.Nat.{ℕ, _+_, _-_, _*_, _/_}
 use native.Mathlib.Omega.{arith}
 use borrow.Author.Needs.{needs}
 use lib.ListN.{length, drop}
 use Rattle.carried.specs.Carries.{packed}
+use Rattle.carried.proofs.Places.{length-packed}
 use Rattle.frame.specs.DataFrame.{bytes-for}
 use Rattle.frame.specs.Head.{four-bytes}
 use Rattle.frame.proofs.Parts.{three-parts}
-use Rattle.frame.proofs.Frames.{len-is, length-packed}
+use Rattle.frame.proofs.Frames.{len-is}
 use Rattle.frame.proofs.data.fill.Needs as need
 
 pub returns : need.returns

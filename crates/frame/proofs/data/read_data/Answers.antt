@@ -19,8 +19,7 @@ returns-in-Break-check g c =
     let fits : misfit (k .kind) (k .len) bs ≡ None = fitting _ _ bs (search needs) (search needs) (search needs) in
     let x = c .in-Break-check .field-0 .0 in
     let is : c .from-residual .result ≡ Err x = search needs in
-    let e : c .from-residual .result ≡ reading m k 32 bs =
-    is ∙ read-as m k 32 bs _ (Some x) fits same (some-from-err _ x (sym (c .check .ensures) ∙ c .in-Break-check .was tt)) in
+    let e : c .from-residual .result ≡ reading m k 32 bs = is ∙ read-as m k 32 bs _ (Some x) fits same (some-from-err _ x (sym (c .check .ensures) ∙ c .in-Break-check .was tt)) in
     record {
       exact = e;
       proper = read-proper m lays refl bs _ e;
@@ -35,8 +34,7 @@ returns g c =
     let bs = c .args .frame .now in
     let same : c .contents-data .result ≡ contents k 32 bs = c .contents-data .ensures ∙ contents-is k 32 _ bs (c .from-be-bytes-base .ensures) in
     let fits : misfit (k .kind) (k .len) bs ≡ None = fitting _ _ bs (search needs) (search needs) (search needs) in
-    let e : Ok (c .contents-data .result) ≡ reading m k 32 bs =
-    read-as m k 32 bs _ None fits same (none-from-ok _ (sym (c .check .ensures) ∙ c .in-Continue-check .was tt)) in
+    let e : Ok (c .contents-data .result) ≡ reading m k 32 bs = read-as m k 32 bs _ None fits same (none-from-ok _ (sym (c .check .ensures) ∙ c .in-Continue-check .was tt)) in
     record {
       exact = e;
       proper = read-proper m lays refl bs _ e;

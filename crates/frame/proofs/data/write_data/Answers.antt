@@ -22,8 +22,7 @@ returns-in-Break-check g c =
     let r = c .from-residual .result in
     let x = c .in-Break-check .field-0 .0 in
     let is : r ≡ Err x = search needs in
-    let e : (r, buffer) ≡ writing m k 32 d buffer =
-    write-refused m k 32 d buffer r x is (omega arith) (some-from-err _ x (sym (c .check .ensures) ∙ c .in-Break-check .was tt)) in
+    let e : (r, buffer) ≡ writing m k 32 d buffer = write-refused m k 32 d buffer r x is (omega arith) (some-from-err _ x (sym (c .check .ensures) ∙ c .in-Break-check .was tt)) in
     let err = c .from-residual .ensures .0 in
     record {
       exact = e;
@@ -43,8 +42,7 @@ returns g c =
     let buffer = c .args .frame .now in
     let len = c .frame-len-len .result in
     let out = c .fill .last .frame ++ drop (len - 0) buffer in
-    let e : (Ok len, out) ≡ writing m k 32 d buffer =
-    write-done m k 32 d buffer len (len - 0) (c .fill .last .frame) (c .frame-len-len .ensures) (omega arith) (omega arith) (none-from-ok _ (sym (c .check .ensures) ∙ c .in-Continue-check .was tt)) (c .fill .ensures .exact) in
+    let e : (Ok len, out) ≡ writing m k 32 d buffer = write-done m k 32 d buffer len (len - 0) (c .fill .last .frame) (c .frame-len-len .ensures) (omega arith) (omega arith) (none-from-ok _ (sym (c .check .ensures) ∙ c .in-Continue-check .was tt)) (c .fill .ensures .exact) in
     let slots = c .fill .ensures .slots in
     let symbols = c .fill .ensures .symbols in
     record {
