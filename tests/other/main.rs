@@ -8,11 +8,14 @@ mod damage;
 mod field;
 mod frame;
 mod jobs;
+mod listening;
 mod program;
 mod random;
+mod receiver;
 
 use field::Field;
 use random::Random;
+use std::collections::BTreeMap;
 use std::io::Write;
 use std::process::{Command, Stdio};
 
@@ -92,10 +95,38 @@ fn readings(inspect: &str, frame: &[u8], what: &str) -> Check {
     }
 }
 
+/// What a receiver answers to random and adversarial frames. Every kind of answer has to come up; only in residues are
+/// there bytes that hold no code.
+fn sessions(listen: &str, field: Field, random: &mut Random) -> Check {
+    let (count, frames) = (12, 150);
+    let mut answers: BTreeMap<String, u32> = BTreeMap::new();
+    for i in 0..count {
+        let (capture, here) = listening::session(field, frames, random);
+        let there = String::from_utf8(run(listen, &capture)?).map_err(|e| e.to_string())?;
+        if let Some((line, (a, b))) = here.lines().zip(there.lines()).enumerate().find(|(_, (a, b))| a != b) {
+            let (a, b) = (show(a.as_bytes()), show(b.as_bytes()));
+            return Err(format!("receiver in {field:?}, session {i}, line {line}: {a} here, {b} there"));
+        }
+        if here.len() != there.len() {
+            return Err(format!("receiver in {field:?}, session {i}: of other lengths"));
+        }
+        for answer in here.lines().filter_map(|line| line.split_once(" report ")) {
+            let kind = if answer.0.starts_with("fresh") { "fresh" } else { answer.0 };
+            *answers.entry(kind.to_string()).or_default() += 1;
+        }
+    }
+    let wanted = ["fresh", "repeat"].map(String::from).into_iter();
+    let refusals = (11..=18).filter(|n| *n != 14 || field == Field::Residues).map(|n| format!("refused {n}"));
+    match wanted.chain(refusals).find(|kind| !answers.contains_key(kind)) {
+        Some(kind) => Err(format!("receiver in {field:?}: {kind} never came up")),
+        None => Ok(format!("receiver in {field:?}: {} frames agree, {answers:?}", count * frames)),
+    }
+}
+
 fn main() {
     let mut arguments = std::env::args().skip(1);
     let programs = arguments.next().expect("the folder of the built programs");
-    let (haul, inspect) = (format!("{programs}/haul"), format!("{programs}/inspect"));
+    let [haul, inspect, listen] = ["haul", "inspect", "listen"].map(|name| format!("{programs}/{name}"));
     let seed = arguments.next().map_or(1, |s| s.parse().expect("a number as the seed"));
     let mut random = Random::new(seed);
     let chosen: Vec<Vec<u8>> = (0..300).map(|_| jobs::job(&mut random)).collect();
@@ -106,6 +137,9 @@ fn main() {
         readings(&inspect, &damage::full(Field::Bytes, &mut random), "data in bytes"),
         readings(&inspect, &damage::full(Field::Residues, &mut random), "data in residues"),
         readings(&inspect, &[4, 0, 0, 1, 2, 0, 1, 0, 0], "reports"),
+        sessions(&listen, Field::Bits, &mut random),
+        sessions(&listen, Field::Bytes, &mut random),
+        sessions(&listen, Field::Residues, &mut random),
         compare(&haul, &jobs::edges(), "edges"),
         compare(&haul, &chosen, &format!("seed {seed}")),
     ];

@@ -24,6 +24,12 @@ impl Random {
         from[self.below(from.len() as u32) as usize]
     }
 
+    /// One of the list, unless it is empty.
+    pub fn pick_clone<T: Clone>(&mut self, from: &[T]) -> Option<T> {
+        let at = self.below(from.len().max(1) as u32) as usize;
+        from.get(at).cloned()
+    }
+
     pub fn bytes(&mut self, n: usize) -> Vec<u8> {
         (0..n).map(|_| self.next() as u8).collect()
     }

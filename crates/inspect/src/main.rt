@@ -52,7 +52,10 @@ fn show_data<C: Carried>(rt: &impl Print, frame: &[u8]) -> io::Result<()> {
             let width = data.width;
             let slots = data.slots;
             let symbols = data.symbols;
-            println!(rt, "base {base} width {width} slots {slots:?} symbols {symbols:?}")
+            println!(
+                rt,
+                "base {base} width {width} slots {slots:?} symbols {symbols:?}"
+            )
         }
         Err(refusal) => {
             let number = refusal.number();

@@ -1,0 +1,7 @@
+pub mod Turns
+pub mod Same
+pub mod Zeros
+pub mod Clearing
+pub mod Reducing
+pub mod Joining
+pub mod Absorbing

@@ -1,0 +1,5 @@
+pub mod Loops
+pub mod Rows
+pub mod Tables
+pub mod Absorption
+pub mod Reduced

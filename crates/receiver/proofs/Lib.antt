@@ -1,0 +1,4 @@
+pub mod Arrivals
+pub mod Passing
+pub mod Releasing
+pub mod Sounding
