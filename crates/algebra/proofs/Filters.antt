@@ -42,7 +42,7 @@ module _ (test : ℕ → Bool) where
       go false s (yes i) ih = absurd (let z : true ≡ false = sym e ∙ ap test i ∙ s in let x : _≡_ {A = ℕ} 0 1 = cc in omega arith)
       go false s (no ne) ih = ih (omega arith)
 
-  rising : (a d i j : ℕ) → i < j → j < length (kept-by test (counting a d)) → getD (kept-by test (counting a d)) i 0 < getD (kept-by test (counting a d)) j 0
+  pub rising : (a d i j : ℕ) → i < j → j < length (kept-by test (counting a d)) → getD (kept-by test (counting a d)) i 0 < getD (kept-by test (counting a d)) j 0
   rising a zero i j l h = absurd (omega arith)
   rising a (suc d) i j l h = go (test a) i j l h (rising (a + 1) d)
     where

@@ -1,7 +1,6 @@
 -- Every table that there can be is reduced.
-use Prim.Native.Nat.{ℕ, zero, suc, _+_, _%_, _≤_, _<_}
-use mathlib.Core.Bool.{Bool, true, false, cond}
-use mathlib.Core.Logic.{_⊎_, inl, inr, ⊎-elim}
+use Prim.Native.Nat.{ℕ, _+_, _%_, _<_}
+use mathlib.Core.Logic.{⊎-elim}
 use mathlib.Core.Path.{_≡_, refl, sym, ap, subst, _∙_}
 use native.Mathlib.Nat.{mod-lt, add-mod-right}
 use native.Mathlib.Omega.{arith}
@@ -13,37 +12,14 @@ use Rattle.std.specs.declared.option.Option.the-variants.{Some, None}
 use Rattle.field.specs.Field.{Means, Laws, times, inverse}
 use Rattle.elimination.proofs.Joining.{joined-reduced}
 use Rattle.elimination.proofs.Reducing.{reduced-zero, reduced-coded}
+use Rattle.elimination.proofs.Seeking.{Found, found}
 use Rattle.elimination.proofs.Zeros.{times-zero, inverse-there}
 use Rattle.elimination.specs.Absorption.{settled, absorbed}
-use Rattle.elimination.specs.Loops.{seek}
 use Rattle.elimination.specs.Reduced.{Coded, Reduced}
 use Rattle.elimination.specs.Rows.{times-all, times-row, scaled, nonzero, first-from}
 use Rattle.elimination.specs.Tables.{no-rows, row-at, with-row, reduced}
 use Rattle.elimination.specs.declared.row.Row.{Row}
 use Rattle.elimination.specs.declared.table.Table.{Table}
-
--- what a search found: the first of n numbers from a on
-record Found (p : ℕ → Bool) (a n k : ℕ) : Type 0 where
-  passes : p k ≡ true
-  within : k < a + n
-  first : (d : ℕ) → a ≤ d → d < k → p d ≡ false
-
-cond-some : (b : Bool) (a k : ℕ) (o : Option ℕ) → cond b (Some a) o ≡ Some k → ((b ≡ true) × (a ≡ k)) ⊎ ((b ≡ false) × (o ≡ Some k))
-cond-some true a k o e = inl (refl, cc)
-cond-some false a k o e = inr (refl, e)
-
-found : (p : ℕ → Bool) (a n k : ℕ) → seek p a n ≡ Some k → Found p a n k
-unfolding seek
-found p a zero k e = let z : _≡_ {A = ℕ} 0 1 = cc in absurd (omega arith)
-found p a (suc n) k e =
-    ⊎-elim
-    (λ h. record { passes = subst (λ j. p j ≡ true) (h .1) (h .0); within = omega (arith, h .1); first = λ d l g. absurd (omega (arith, h .1)) })
-    (λ h. let r : Found p (a + 1) n k = found p (a + 1) n k (h .1) in record {
-      passes = r .passes;
-      within = omega (arith, r .within);
-      first = λ d l g. ⊎-elim (λ q. subst (λ j. p j ≡ false) (sym q) (h .0)) (λ ne. r .first d (omega arith) g) (cases-eq d a);
-    })
-    (cond-some (p a) a k (seek p (a + 1) n) e)
 
 -- a row scaled to 1 at a place where it is not 0
 module _ (m : Means) (laws : Laws m) (w : ℕ) (x : Row) (cx : Coded m w x) where

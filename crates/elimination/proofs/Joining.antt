@@ -65,26 +65,30 @@ old-of : (m : Means) (w s : ℕ) (x : Row) (t : Table) (i : ℕ) (y : Row) (o : 
 old-of m w s x t i y None e f l = let q : _≡_ {A = ℕ} 0 1 = cc in absurd (omega arith)
 old-of m w s x t i y (Some v) e f l = record { z = v; was = e; is = cc; low = l }
 
+-- the rows of the joined table
 module _ (m : Means) (w s : ℕ) (x : Row) (t : Table) (long : length (t .rows) ≡ w) where
-  view : s < w → (i : ℕ) (y : Row) → row-at (joined m w s x t) i ≡ Some y → ((i ≡ s) × (y ≡ x)) ⊎ Old m w s x t i y
-  unfolding after
-  view low i y f =
-      ⊎-elim
-      (λ e. inl (
-        e,
-        let g = getD-set-same (after m s x t w .rows) s (Some x) None (let q = after-length m s x t w in omega arith) in
-            let h = subst (λ k. row-at (joined m w s x t) k ≡ Some y) e f in cc,
-      ))
-      (λ ne. let g = getD-set-other (after m s x t w .rows) s i (Some x) None ne in
-      ⊎-elim
-      (λ l. inr (old-of m w s x t i y (row-at t i) refl (sym (after-below m s x t w i l (omega arith)) ∙ sym g ∙ f) l))
-      (λ past. let q : _≡_ {A = ℕ} 0 1 = cc (getD-past (after m s x t w .rows) i None (let q = after-length m s x t w in omega arith), g, f) in absurd (omega arith))
-      (cases-lt i w))
-      (cases-eq i s)
-
-  joined-length : length (joined m w s x t .rows) ≡ w
+  pub joined-length : length (joined m w s x t .rows) ≡ w
   unfolding after
   joined-length = length-set (after m s x t w .rows) s (Some x) ∙ after-length m s x t w ∙ long
+
+  pub joined-here : s < w → row-at (joined m w s x t) s ≡ Some x
+  unfolding after
+  joined-here low = getD-set-same (after m s x t w .rows) s (Some x) None (let q = after-length m s x t w in omega arith)
+
+  pub joined-other : (i : ℕ) → i < w → (i ≡ s → ⊥) → row-at (joined m w s x t) i ≡ cleared-by m s x (row-at t i)
+  unfolding after
+  joined-other i l ne = getD-set-other (after m s x t w .rows) s i (Some x) None ne ∙ after-below m s x t w i l (omega arith)
+
+  view : s < w → (i : ℕ) (y : Row) → row-at (joined m w s x t) i ≡ Some y → ((i ≡ s) × (y ≡ x)) ⊎ Old m w s x t i y
+  view low i y f =
+      ⊎-elim
+      (λ e. inl (e, let g = joined-here low in let h = subst (λ k. row-at (joined m w s x t) k ≡ Some y) e f in cc))
+      (λ ne.
+      ⊎-elim
+      (λ l. inr (old-of m w s x t i y (row-at t i) refl (sym (joined-other i l ne) ∙ f) l))
+      (λ past. let q : _≡_ {A = ℕ} 0 1 = cc (getD-past (joined m w s x t .rows) i None (let q = joined-length in omega arith), f) in absurd (omega arith))
+      (cases-lt i w))
+      (cases-eq i s)
 
 -- the row x begins with 1 at the distance b past start, and is 0 where the table has rows
 module _ (m : Means) (laws : Laws m) (w start b : ℕ) (low : b < w) (x : Row) (t : Table) (red : Reduced m w start t) (cx : Coded m w x)

@@ -1,4 +1,5 @@
 pub mod Turns
+pub mod Seeking
 pub mod Same
 pub mod Zeros
 pub mod Clearing

@@ -25,25 +25,29 @@ use Rattle.elimination.specs.declared.table.Table.{Table}
 use Rattle.elimination.specs.declared.table.Verdict.{Verdict}
 use Rattle.elimination.specs.declared.table.Verdict.the-variants.{Innovative, Redundant, Contradictory}
 use Rattle.receiver.specs.Alignment.{aligned}
-use Rattle.receiver.specs.Arrival.{Arrival, arrival, checked, with-table, reaching, decided, judged, accepted, arrived}
+use Rattle.receiver.specs.Arrival.{Outcome, arrival, checked, with-table, reaching, decided, judged, accepted, arrived}
 use Rattle.receiver.specs.Reach.{reach}
 use Rattle.receiver.specs.Release.{Release, ready, release-one, releasing}
 use Rattle.receiver.specs.Start.{Bounded}
 use Rattle.receiver.specs.declared.state.State.{State}
 
 -- after a check, by its answer
-checked-both : {A : Type 0} (P : Arrival → Type 0) (r : Result A Refusal) (c : State) (numbers : List ℕ) (next : A → Arrival) → ((e : Refusal) → P (arrival (Err e) c numbers)) → ((x : A) → r ≡ Ok x → P (next x)) → P (checked r c numbers next)
+checked-both : {A : Type 0} (P : Outcome → Type 0) (r : Result A Refusal) (c : State) (numbers : List ℕ) (next : A → Outcome) → ((e : Refusal) → P (arrival (Err e) c numbers)) → ((x : A) → r ≡ Ok x → P (next x)) → P (checked r c numbers next)
 checked-both P (Ok x) c numbers next refuse go = go x refl
 checked-both P (Err e) c numbers next refuse go = refuse e
 
-not-ahead : (late ahead : Bool) (u : Unit {0}) → cond late (Err Late) (cond ahead (Err Ahead) (Ok tt)) ≡ Ok u → ahead ≡ false
-not-ahead true ahead u e = absurd (let z : _≡_ {A = ℕ} 0 1 = cc in omega arith)
-not-ahead false true u e = absurd (let z : _≡_ {A = ℕ} 0 1 = cc in omega arith)
-not-ahead false false u e = refl
+neither : (late ahead : Bool) (u : Unit {0}) → cond late (Err Late) (cond ahead (Err Ahead) (Ok tt)) ≡ Ok u → (late ≡ false) × (ahead ≡ false)
+neither true ahead u e = absurd (let z : _≡_ {A = ℕ} 0 1 = cc in omega arith)
+neither false true u e = absurd (let z : _≡_ {A = ℕ} 0 1 = cc in omega arith)
+neither false false u e = (refl, refl)
 
--- a frame in reach ends within the window
-reach-end : (w r : ℕ) (f : Data) (u : Unit {0}) → reach w r f ≡ Ok u → f .base + f .width ≤ r + w
-reach-end w r f u e = ltb-false _ _ (not-ahead (ltb (f .base + w) r) (ltb (r + w) (f .base + f .width)) u e)
+-- the rows in reach of a receiver that has released r packets
+abbrev pub Near : ℕ → ℕ → Data → Type 0
+Near w r f = (r ≤ f .base + w) × (f .base + f .width ≤ r + w)
+
+in-reach : (w r : ℕ) (f : Data) (u : Unit {0}) → reach w r f ≡ Ok u → Near w r f
+in-reach w r f u e =
+    let h = neither (ltb (f .base + w) r) (ltb (r + w) (f .base + f .width)) u e in (ltb-false _ _ (h .0), ltb-false _ _ (h .1))
 
 -- only a number below the stream's end is ready
 ready-below : (w : ℕ) (c : State) (p : List ℕ) → ready w c ≡ Some p → c .released < 65536
@@ -61,20 +65,20 @@ releasing-bounded w c h (suc n) = one-bounded w (releasing w c n) (ready w (rele
 
 module _ (m : Means) (carries : Carries) (w : ℕ) (c : State) (bytes numbers : List ℕ) where
   -- what holds of a refusal, and of the answer to each readable frame in reach, holds of an arrival
-  pub by-frame : (P : Arrival → Type 0) → ((e : Refusal) → P (arrival (Err e) c numbers)) → ((f : Data) → reading m carries w bytes ≡ Ok f → f .base + f .width ≤ c .released + w → P (judged w c f numbers (absorbed m w (c .released) (aligned m w c f) (c .table)))) → P (arrived m carries w c bytes numbers)
+  pub by-frame : (P : Outcome → Type 0) → ((e : Refusal) → P (arrival (Err e) c numbers)) → ((f : Data) → w * 128 ≤ length numbers → reading m carries w bytes ≡ Ok f → Near w (c .released) f → P (judged w c f numbers (absorbed m w (c .released) (aligned m w c f) (c .table)))) → P (arrived m carries w c bytes numbers)
   by-frame P refuse go =
       cond-both (ltb (length numbers) (w * 128)) (arrival (Err ShortBuffer) c numbers) (checked (reading m carries w bytes) c numbers (λ f. accepted m w c f numbers)) P
       (λ _. refuse ShortBuffer)
-      (λ _. checked-both P (reading m carries w bytes) c numbers (λ f. accepted m w c f numbers) refuse
+      (λ room. checked-both P (reading m carries w bytes) c numbers (λ f. accepted m w c f numbers) refuse
       (λ f r. checked-both P (reach w (c .released) f) c numbers (λ _. judged w c f numbers (absorbed m w (c .released) (aligned m w c f) (c .table))) refuse
-      (λ u e. go f r (reach-end w (c .released) f u e))))
+      (λ u e. go f (ltb-false _ _ room) r (in-reach w (c .released) f u e))))
 
-  decided-bounded : Bounded w c → (f : Data) → f .base + f .width ≤ c .released + w → (t : Table) (v : Verdict) → Bounded w (decided w c f numbers t v .state)
-  decided-bounded h f l t (Innovative distance) = releasing-bounded w (reaching f (with-table t c)) (h .0, omega (arith, h .1)) w
-  decided-bounded h f l t Redundant = (h .0, omega (arith, h .1))
+  decided-bounded : Bounded w c → (f : Data) → Near w (c .released) f → (t : Table) (v : Verdict) → Bounded w (decided w c f numbers t v .state)
+  decided-bounded h f l t (Innovative distance) = releasing-bounded w (reaching f (with-table t c)) (h .0, omega (arith, h .1, l .1)) w
+  decided-bounded h f l t Redundant = (h .0, omega (arith, h .1, l .1))
   decided-bounded h f l t Contradictory = h
 
-  abbrev Unchanged : Arrival → Type 0
+  abbrev Unchanged : Outcome → Type 0
   Unchanged a = refused (a .answer) (λ _. (a .state ≡ c) × (a .numbers ≡ numbers))
 
   decided-unchanged : (f : Data) (t : Table) (v : Verdict) → Unchanged (decided w c f numbers t v)
@@ -82,9 +86,9 @@ module _ (m : Means) (carries : Carries) (w : ℕ) (c : State) (bytes numbers : 
   decided-unchanged f t Redundant = tt
   decided-unchanged f t Contradictory = (refl, refl)
 
-  module _ (a : Arrival) (is : a ≡ arrived m carries w c bytes numbers) where
+  module _ (a : Outcome) (is : a ≡ arrived m carries w c bytes numbers) where
     pub arrived-bounded : Bounded w c → Bounded w (a .state)
-    arrived-bounded h = subst (λ (r : Arrival). Bounded w (r .state)) (sym is) (by-frame (λ r. Bounded w (r .state)) (λ _. h) (λ f _ l. decided-bounded h f l _ _))
+    arrived-bounded h = subst (λ (r : Outcome). Bounded w (r .state)) (sym is) (by-frame (λ r. Bounded w (r .state)) (λ _. h) (λ f _ _ l. decided-bounded h f l _ _))
 
     pub arrived-unchanged : Unchanged a
-    arrived-unchanged = subst Unchanged (sym is) (by-frame Unchanged (λ _. (refl, refl)) (λ f _ _. decided-unchanged f _ _))
+    arrived-unchanged = subst Unchanged (sym is) (by-frame Unchanged (λ _. (refl, refl)) (λ f _ _ _. decided-unchanged f _ _))

@@ -2,3 +2,9 @@ pub mod Arrivals
 pub mod Passing
 pub mod Releasing
 pub mod Sounding
+pub mod Rows
+pub mod Aligning
+pub mod Settling
+pub mod Deciding
+pub mod Faith
+pub mod Reporting

@@ -28,7 +28,7 @@ use Rattle.elimination.specs.declared.table.Verdict.{Verdict}
 use Rattle.elimination.specs.declared.table.Verdict.the-variants.{Innovative, Redundant, Contradictory}
 use Rattle.receiver.proofs.Arrivals.{by-frame}
 use Rattle.receiver.specs.Alignment.{with-slot, with-packet, aligned}
-use Rattle.receiver.specs.Arrival.{Arrival, with-table, reaching, decided, arrived}
+use Rattle.receiver.specs.Arrival.{Outcome, with-table, reaching, decided, arrived}
 use Rattle.receiver.specs.Release.{Release, ready, release-one, releasing}
 use Rattle.receiver.specs.Start.{Sound}
 use Rattle.receiver.specs.declared.state.State.{State}
@@ -78,9 +78,9 @@ module _ (m : Means) (laws : Laws m) (w : ℕ) (pos : 0 < w) (c : State) where
   decided-sound f numbers t Redundant d red = d
   decided-sound f numbers t Contradictory d red = d
 
-  pub arrived-sound : (carries : Carries) (bytes numbers : List ℕ) (a : Arrival) → a ≡ arrived m carries w c bytes numbers → ((f : Data) → reading m carries w bytes ≡ Ok f → Proper (m .q) w f) → Sound m w c → Sound m w (a .state)
+  pub arrived-sound : (carries : Carries) (bytes numbers : List ℕ) (a : Outcome) → a ≡ arrived m carries w c bytes numbers → ((f : Data) → reading m carries w bytes ≡ Ok f → Proper (m .q) w f) → Sound m w c → Sound m w (a .state)
   arrived-sound carries bytes numbers a is proper d =
-      subst (λ (r : Arrival). Sound m w (r .state)) (sym is)
+      subst (λ (r : Outcome). Sound m w (r .state)) (sym is)
       (by-frame m carries w c bytes numbers (λ r. Sound m w (r .state)) (λ _. d)
-      (λ f r _. decided-sound f numbers _ (absorbed m w (c .released) (aligned m w c f) (c .table) .verdict) d
+      (λ f _ r _. decided-sound f numbers _ (absorbed m w (c .released) (aligned m w c f) (c .table) .verdict) d
       (absorbed-reduced m laws w (c .released) (c .table) d (aligned m w c f) (aligned-coded f (proper f r)))))

@@ -5,3 +5,6 @@ pub mod Alignment
 pub mod Release
 pub mod Arrival
 pub mod Reports
+pub mod Log
+pub mod Run
+pub mod Promise
