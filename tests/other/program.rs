@@ -38,10 +38,11 @@ pub fn parse(input: &[u8]) -> Result<Job, u32> {
     Ok(Job { field, file: file.to_vec() })
 }
 
+/// Each packet crosses in a frame of its own, so every frame is fresh.
 fn carried(job: &Job) -> Vec<u8> {
     let bytes_a_packet = if job.field == Field::Bits { 16 } else { 128 };
-    let packets = (4 + job.file.len()).div_ceil(bytes_a_packet);
-    let mut out = format!("packets {packets}\nframes {packets}\nwhole {}\n", job.file.len()).into_bytes();
-    out.extend_from_slice(&job.file);
-    out
+    let n = (4 + job.file.len()).div_ceil(bytes_a_packet);
+    let length = job.file.len();
+    let text = format!("packets {n}\nframes {n}\nfresh {n}\nrepeat 0\nrefused 0\nwhole {length}\n");
+    [text.as_bytes(), &job.file].concat()
 }

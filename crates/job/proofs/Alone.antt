@@ -39,7 +39,7 @@ still f a h zero = refl
 still f a h (suc n) = ap (f n) (still f a h n) ∙ h n
 
 -- turns of which only the first changes something
-then-still : {A : Type 0} (f : ℕ → A → A) (a b : A) → f 0 a ≡ b → ((i : ℕ) → f i b ≡ b) → (n : ℕ) → turns f a (suc n) ≡ b
+pub then-still : {A : Type 0} (f : ℕ → A → A) (a b : A) → f 0 a ≡ b → ((i : ℕ) → f i b ≡ b) → (n : ℕ) → turns f a (suc n) ≡ b
 unfolding turns
 then-still f a b e h zero = e
 then-still f a b e h (suc n) = ap (f (suc n)) (then-still f a b e h n) ∙ h (suc n)
@@ -58,17 +58,17 @@ map-same f [] a = refl
 map-same f (x ∷ xs) a = ap (λ (y : ℕ). y ∷ map f xs) (a .0) ∙ ap (λ (ys : List ℕ). x ∷ ys) (map-same f xs (a .1))
 
 module _ (w : ℕ) where
-  none-at : (i : ℕ) → row-at (no-rows w) i ≡ None
+  pub none-at : (i : ℕ) → row-at (no-rows w) i ≡ None
   none-at i =
       elim (cases-lt i w) [
-        inl l ↦ getD-replicate w i None None l
-      | inr m ↦ getD-past (replicate w None) i None (rw length-replicate m)
+        | inl l ↦ getD-replicate w i None None l
+        | inr m ↦ getD-past (replicate w None) i None (rw length-replicate m)
       ]
 
-  none-set : (i : ℕ) → with-row i None (no-rows w) ≡ no-rows w
+  pub none-set : (i : ℕ) → with-row i None (no-rows w) ≡ no-rows w
   none-set i =
       ap (λ (l : List (Option Row)). record { rows = l })
-        (ap (set (replicate w None) i) (sym (none-at i)) ∙ set-getD (replicate w None) i None)
+      (ap (set (replicate w None) i) (sym (none-at i)) ∙ set-getD (replicate w None) i None)
 
   reduced-none : (m : Means) (x : Row) → reduced m w (no-rows w) x ≡ x
   reduced-none m x =
@@ -77,8 +77,8 @@ module _ (w : ℕ) where
   joined-none : (m : Means) (s : ℕ) (x : Row) → joined m w s x (no-rows w) ≡ with-row s (Some x) (no-rows w)
   joined-none m s x =
       ap (with-row s (Some x))
-        (still (clear-at m s x) (no-rows w)
-          (λ i. ap (λ (o : Option Row). with-row i (cleared-by m s x o) (no-rows w)) (none-at i) ∙ none-set i) w)
+      (still (clear-at m s x) (no-rows w)
+      (λ i. ap (λ (o : Option Row). with-row i (cleared-by m s x o) (no-rows w)) (none-at i) ∙ none-set i) w)
 
   module _ (m : Means) (laws : Laws m) (s : ℕ) (inside : s < w) (p : List ℕ) (codes : Under (m .q) p) where
     -- the row of one packet, at the place s
@@ -92,8 +92,8 @@ module _ (w : ℕ) where
     zero-at : (i : ℕ) → _≡_ {A = ℕ} (getD (replicate w 0) i 0) 0
     zero-at i =
         elim (cases-lt i w) [
-          inl l ↦ getD-replicate w i 0 0 l
-        | inr h ↦ getD-past (replicate w 0) i 0 (rw length-replicate h)
+          | inl l ↦ getD-replicate w i 0 0 l
+          | inr h ↦ getD-past (replicate w 0) i 0 (rw length-replicate h)
         ]
 
     unit : unit-at w s alone-row ≡ true
@@ -103,8 +103,8 @@ module _ (w : ℕ) where
         at : (i : ℕ) → zero-beside s alone-row i ≡ true
         at i =
             elim (cases-eq i s) [
-              inl e ↦ ap (λ (b : Bool). b || eqb (getD (alone-row .slots) i 0) 0) (eq-eqb i s e)
-            | inr ne ↦ or-true (eqb i s) _ (eq-eqb _ 0 (getD-set-other (replicate w 0) s i 1 0 ne ∙ zero-at i))
+              | inl e ↦ ap (λ (b : Bool). b || eqb (getD (alone-row .slots) i 0) 0) (eq-eqb i s e)
+              | inr ne ↦ or-true (eqb i s) _ (eq-eqb _ 0 (getD-set-other (replicate w 0) s i 1 0 ne ∙ zero-at i))
             ]
 
     one-code : 1 < m .q
@@ -125,10 +125,10 @@ module _ (w : ℕ) where
         ap (λ (x : ℕ). times-row m (inverse m x) alone-row) one
         ∙ ap (λ (o : Option ℕ). times-row m o alone-row) (inverse-one (inverse m 1) refl)
         ∙ same-row _ _
-          (map-same (times m 1) (set (replicate w 0) s 1)
-            (all-set (λ x. times m 1 x ≡ x) (replicate w 0) s 1 (by-one 1 one-code)
-              (all-from-getD (λ x. times m 1 x ≡ x) (replicate w 0) 0 (λ i h. subst (λ (x : ℕ). times m 1 x ≡ x) (sym (zero-at i)) (by-one 0 (omega (arith, one-code)))))))
-          (map-same (times m 1) p (all-weaker (λ x. x < m .q) (λ x. times m 1 x ≡ x) by-one p codes))
+        (map-same (times m 1) (set (replicate w 0) s 1)
+        (all-set (λ x. times m 1 x ≡ x) (replicate w 0) s 1 (by-one 1 one-code)
+        (all-from-getD (λ x. times m 1 x ≡ x) (replicate w 0) 0 (λ i h. subst (λ (x : ℕ). times m 1 x ≡ x) (sym (zero-at i)) (by-one 0 (omega (arith, one-code)))))))
+        (map-same (times m 1) p (all-weaker (λ x. x < m .q) (λ x. times m 1 x ≡ x) by-one p codes))
 
     -- an empty table takes it in, at no distance from k
     module _ (k : ℕ) (place : k % w ≡ s) where
@@ -138,7 +138,7 @@ module _ (w : ℕ) where
       begins : first-from w k alone-row ≡ Some 0
       begins =
           seek-yes (nonzero w k alone-row) 0 w (omega (arith, inside))
-            (ap (λ (i : ℕ). not (eqb (getD (alone-row .slots) i 0) 0)) place-at ∙ ap (λ (x : ℕ). not (eqb x 0)) one)
+          (ap (λ (i : ℕ). not (eqb (getD (alone-row .slots) i 0) 0)) place-at ∙ ap (λ (x : ℕ). not (eqb x 0)) one)
 
       pub absorbed-alone : absorbed m w k alone-row (no-rows w) ≡ absorption (Innovative 0) (with-row s (Some alone-row) (no-rows w))
       absorbed-alone =

@@ -11,6 +11,7 @@ use Rattle.file.specs.Packets.{packets}
 use Rattle.file.specs.Spelling.{spellingOf}
 use Rattle.job.specs.declared.line.FieldKind.{FieldKind}
 use Rattle.job.specs.declared.line.FieldKind.the-variants.{Bits, Bytes, Residues}
+use Rattle.job.specs.Crossing.{all-fresh}
 use Rattle.job.specs.Line.{Asked, parsed}
 use Rattle.job.specs.Output.{refused-text, whole-text}
 
@@ -20,9 +21,10 @@ order-of Bits = bits .q
 order-of Bytes = bytes .q
 order-of Residues = residues .q
 
--- a file in a field of order q: its count of packets, as many frames, and the file itself, byte for byte
+-- a file in a field of order q: its count of packets, as many frames, all of them fresh, and the file itself, byte for byte
 abbrev pub copied-text : ℕ → List ℕ → List ℕ
-copied-text q file = whole-text (packets (spellingOf q) (length file)) (packets (spellingOf q) (length file)) file
+copied-text q file =
+    whole-text (packets (spellingOf q) (length file)) (all-fresh (packets (spellingOf q) (length file))) file
 
 -- a job that is not refused writes the file that it was handed
 abbrev pub carried-text : FieldKind → List ℕ → List ℕ

@@ -1,3 +1,4 @@
 pub mod Answer
+pub mod Crossing
 pub mod Line
 pub mod Output

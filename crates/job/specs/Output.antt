@@ -4,6 +4,7 @@ use Prim.Native.Nat.{ℕ}
 use lib.Chars.{codes}
 use lib.ListN.{length}
 use Rattle.std.specs.Written.{decimal}
+use Rattle.job.specs.declared.tally.Tally.{Tally}
 
 -- one line: a word, a space and a number
 abbrev pub line : List ℕ → ℕ → List ℕ
@@ -13,7 +14,12 @@ line word n = word ++ (decimal n ++ (10 ∷ []))
 abbrev pub refused-text : ℕ → List ℕ
 refused-text number = line (codes "job ") number
 
--- a file that came through in so many packets and frames
-abbrev pub whole-text : ℕ → ℕ → List ℕ → List ℕ
-whole-text packets frames file =
-    line (codes "packets ") packets ++ (line (codes "frames ") frames ++ (line (codes "whole ") (length file) ++ file))
+-- a file that came through in so many packets, with the tally of its frames
+abbrev pub whole-text : ℕ → Tally → List ℕ → List ℕ
+whole-text packets tally file =
+    line (codes "packets ") packets
+    ++ (line (codes "frames ") (tally .frames)
+    ++ (line (codes "fresh ") (tally .fresh)
+    ++ (line (codes "repeat ") (tally .repeat)
+    ++ (line (codes "refused ") (tally .refused)
+    ++ (line (codes "whole ") (length file) ++ file)))))

@@ -3,6 +3,7 @@ mod carry;
 mod line;
 mod output;
 mod program;
+mod tally;
 
 pub use line::FieldKind;
 pub use line::FieldKindDebug;

@@ -51,13 +51,14 @@ fn copied<C: Carried>(heap: Global, file: &[u8]) -> Result<Vec<u8>, AllocError>
     requires { ⌜ length (now file) ≤ 16000 ⌝ }
     ensures { λ r. ⌜ made r (λ v. vec-items v ≡ copied-text (C·Field .means .q) (now (file .entry))) ⌝ }
 {
+    let mut numbers = [0; 4096];
     let mut buffer = [0; FILE_MOST];
     let packets = packet_count::<C>(file.len() as u32);
-    match carry::<C>(file, &mut buffer) {
+    match carry::<C>(file, &mut numbers, &mut buffer) {
         Ok(came) => {
-            let (frames, whole) = came;
+            let (tally, whole) = came;
             match whole.show(&buffer) {
-                Ok(shown) => output::whole(heap, packets, frames, shown),
+                Ok(shown) => output::whole(heap, packets, tally, shown),
                 Err(refusal) => output::refused(heap, refusal),
             }
         }

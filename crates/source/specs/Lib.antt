@@ -1,0 +1,4 @@
+pub mod OfPlain
+pub mod OfWoven
+pub mod Source
+pub mod Turn
