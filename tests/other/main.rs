@@ -127,7 +127,7 @@ fn main() {
     let mut arguments = std::env::args().skip(1);
     let programs = arguments.next().expect("the folder of the built programs");
     let [haul, inspect, listen] = ["haul", "inspect", "listen"].map(|name| format!("{programs}/{name}"));
-    let seed = arguments.next().map_or(1, |s| s.parse().expect("a number as the seed"));
+    let seed = arguments.next().map_or(1, |s| s.parse().expect("a number as seed"));
     let mut random = Random::new(seed);
     let chosen: Vec<Vec<u8>> = (0..300).map(|_| jobs::job(&mut random)).collect();
     let checks = [

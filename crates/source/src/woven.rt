@@ -19,7 +19,7 @@ pub struct Woven {
 }
 
 impl Woven {
-    /// A source before its first draw, whose generator starts at the seed.
+    /// A source before its first draw, whose generator starts at `seed`.
     pub fn new(seed: u32) -> Woven
         ensures { λ r. ⌜ r ≡ record { turn = start; v = seed } ⌝ }
     {
