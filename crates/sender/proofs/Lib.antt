@@ -1,0 +1,4 @@
+pub mod Keeping
+pub mod Payloads
+pub mod Sending
+pub mod Telling
