@@ -8,10 +8,13 @@ mod damage;
 mod field;
 mod frame;
 mod jobs;
+mod link;
 mod listening;
 mod program;
 mod random;
 mod receiver;
+mod rig;
+mod source;
 
 use field::Field;
 use random::Random;
@@ -123,10 +126,24 @@ fn sessions(listen: &str, field: Field, random: &mut Random) -> Check {
     }
 }
 
+/// What sources draw, or what links do with frames.
+fn driven(program: &str, commands: &[rig::Command], what: &str) -> Check {
+    let lines: Vec<&str> = commands.iter().map(|command| command.line.as_str()).collect();
+    let there = String::from_utf8(run(program, (lines.join("\n") + "\n").as_bytes())?).map_err(|e| e.to_string())?;
+    let mut rest = there.as_str();
+    for command in commands {
+        match rest.strip_prefix(command.says.as_str()) {
+            Some(more) => rest = more,
+            None => return Err(format!("{what}: {} gives {} here, {} there", command.line, command.says, show(rest.as_bytes()))),
+        }
+    }
+    if rest.is_empty() { Ok(format!("{what}: {} commands agree", commands.len())) } else { Err(format!("{what}: more there")) }
+}
+
 fn main() {
     let mut arguments = std::env::args().skip(1);
     let programs = arguments.next().expect("the folder of the built programs");
-    let [haul, inspect, listen] = ["haul", "inspect", "listen"].map(|name| format!("{programs}/{name}"));
+    let [haul, inspect, listen, rig] = ["haul", "inspect", "listen", "rig"].map(|name| format!("{programs}/{name}"));
     let seed = arguments.next().map_or(1, |s| s.parse().expect("a number as seed"));
     let mut random = Random::new(seed);
     let chosen: Vec<Vec<u8>> = (0..300).map(|_| jobs::job(&mut random)).collect();
@@ -137,6 +154,8 @@ fn main() {
         readings(&inspect, &damage::full(Field::Bytes, &mut random), "data in bytes"),
         readings(&inspect, &damage::full(Field::Residues, &mut random), "data in residues"),
         readings(&inspect, &[4, 0, 0, 1, 2, 0, 1, 0, 0], "reports"),
+        driven(&rig, &rig::all_draws(&mut random), "sources"),
+        driven(&rig, &rig::all_steps(&mut random), "links"),
         sessions(&listen, Field::Bits, &mut random),
         sessions(&listen, Field::Bytes, &mut random),
         sessions(&listen, Field::Residues, &mut random),
