@@ -237,5 +237,5 @@ module _ (n size : ℕ) (n_pos : 0 < n) (size_pos : 0 < size) (m : Means) (laws 
 pub release_exists_lem : ReleaseExists
 release_exists_lem = exists
 
-pub release-is-counted : ReleaseIsCounted
-release-is-counted = counted
+pub release_is_counted : ReleaseIsCounted
+release_is_counted = counted

@@ -55,8 +55,8 @@ module _ (m : Means) (laws : Laws m) where
       none : (k : ℕ) → combination m weights (rows_at 0 draws) k ≡ 0
       none k = code_same m laws (combination-code m laws weights (rows_at 0 draws) k) (q_pos m laws) (combination-total weights 0 draws k ∙ same k ∙ all k ∙ sym (code_zero m laws))
 
-pub ends-apart-independent : EndsApartIndependent
-ends-apart-independent m laws draws last bound below own ends after weights none i l =
+pub ends_apart_independent : EndsApartIndependent
+ends_apart_independent m laws draws last bound below own ends after weights none i l =
     zero_value m laws (get_or weights i 0)
     (triangular (scalars m laws) (length draws) bound (row m laws 0 draws) last below own
     (λ i l. ap (code m laws) (row-slot_zero (get_or draws i []) (last i) ∙ ends i l) ∙ code_one m laws)

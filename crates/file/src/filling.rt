@@ -28,7 +28,7 @@ impl<F: Field> Filling<F> {
     /// A record that has taken no packet.
     pub fn new() -> Filling<F>
         ensures exact { (result.taken ≡ 0) × (result.size ≡ 0) }
-        ensures starts { (file buffer : List ℕ) → Filled (spelling_of means.q) file 0 result.taken result.size buffer }
+        ensures starts { (file buffer : List ℕ) → Filled (spelling_of F.means.q) file 0 result.taken result.size buffer }
     {
         Filling {
             taken: 0,
@@ -40,8 +40,8 @@ impl<F: Field> Filling<F> {
     /// Takes the next packet, and writes the bytes of the file that it holds at their places in the buffer. Packets
     /// past the file's end change nothing.
     pub fn add(&mut self, packet: &[u16], buffer: &mut [u8]) -> Result<(), Refusal>
-        ensures exact { (result, self.new.taken, self.new.size, buffer.new) ≡ adding means.q self.old.taken self.old.size packet.now buffer.old }
-        ensures fills { Fills (spelling_of means.q) packet.now self.old.taken self.old.size buffer.old (result, self.new.taken, self.new.size, buffer.new) }
+        ensures exact { (result, self.new.taken, self.new.size, buffer.new) ≡ adding F.means.q self.old.taken self.old.size packet.now buffer.old }
+        ensures fills { Fills (spelling_of F.means.q) packet.now self.old.taken self.old.size buffer.old (result, self.new.taken, self.new.size, buffer.new) }
     {
         if buffer.len() < FILE_MOST {
             return Err(Refusal::ShortBuffer);
@@ -57,8 +57,8 @@ impl<F: Field> Filling<F> {
 
     // Takes a packet of bytes.
     fn take_packet(&mut self, packet: &[u16], buffer: &mut [u8]) -> Result<(), Refusal>
-        requires { (16000 ≤ length buffer.old) × ((length packet.now ≡ 128) × (AllBelowBase (spelling_of means.q).base packet.now)) }
-        ensures { (result, self.new.taken, self.new.size, buffer.new) ≡ taking (spelling_of means.q) self.old.taken self.old.size packet.now buffer.old }
+        requires { (16000 ≤ length buffer.old) × ((length packet.now ≡ 128) × (AllBelowBase (spelling_of F.means.q).base packet.now)) }
+        ensures { (result, self.new.taken, self.new.size, buffer.new) ≡ taking (spelling_of F.means.q) self.old.taken self.old.size packet.now buffer.old }
     {
         if self.is_complete() {
             return Ok(());
@@ -93,15 +93,15 @@ impl<F: Field> Filling<F> {
 
     // Whether all bytes of the file are there; the four of its length are the first.
     fn is_complete(&self) -> bool
-        ensures { result ≡ complete (spelling_of means.q) self.now.taken self.now.size }
+        ensures { result ≡ complete (spelling_of F.means.q) self.now.taken self.now.size }
     {
         4 + self.size <= Spelling::of::<F>().room * self.taken as usize
     }
 
     /// The whole record, where all bytes of the file are there.
     pub fn finish(self) -> Result<Whole, (Filling<F>, Refusal)>
-        ensures exact { elim result [ Ok whole ↦ (complete (spelling_of means.q) self.taken self.size ≡ true) × (whole.size ≡ self.size) | Err back ↦ (complete (spelling_of means.q) self.taken self.size ≡ false) × (back.0.taken ≡ self.taken) × (back.0.size ≡ self.size) × (back.1 ≡ Incomplete) ] }
-        ensures completes { (file buffer : List ℕ) (k : ℕ) → Filled (spelling_of means.q) file k self.taken self.size buffer → elim result [ Ok whole ↦ (packets (spelling_of means.q) (length file) ≤ k) × (whole.size ≡ length file) | Err back ↦ (k < packets (spelling_of means.q) (length file)) × (back.1 ≡ Incomplete) ] }
+        ensures exact { elim result [ Ok whole ↦ (complete (spelling_of F.means.q) self.taken self.size ≡ true) × (whole.size ≡ self.size) | Err back ↦ (complete (spelling_of F.means.q) self.taken self.size ≡ false) × (back.0.taken ≡ self.taken) × (back.0.size ≡ self.size) × (back.1 ≡ Incomplete) ] }
+        ensures completes { (file buffer : List ℕ) (k : ℕ) → Filled (spelling_of F.means.q) file k self.taken self.size buffer → elim result [ Ok whole ↦ (packets (spelling_of F.means.q) (length file) ≤ k) × (whole.size ≡ length file) | Err back ↦ (k < packets (spelling_of F.means.q) (length file)) × (back.1 ≡ Incomplete) ] }
     {
         if self.is_complete() {
             Ok(Whole { size: self.size })

@@ -13,17 +13,17 @@ use refusal::Refusal;
 
 /// How many packets a file of this many bytes takes: the least number that holds the length and the file.
 pub fn packet_count<F: Field>(size: u32) -> u32
-    ensures exact { result ≡ packets (spelling_of means.q) size }
-    ensures enough { 4 + size ≤ (spelling_of means.q).room * result }
-    ensures least { (n : ℕ) → 4 + size ≤ (spelling_of means.q).room * n → result ≤ n }
+    ensures exact { result ≡ packets (spelling_of F.means.q) size }
+    ensures enough { 4 + size ≤ (spelling_of F.means.q).room * result }
+    ensures least { (n : ℕ) → 4 + size ≤ (spelling_of F.means.q).room * n → result ≤ n }
 {
     (size as usize + 4).div_ceil(Spelling::of::<F>().room) as u32
 }
 
 /// Packet `number` of the file, which is zeros where the file ended before it.
 pub fn packet<F: Field>(file: &[u8], number: u32) -> Result<[u16; 128], Refusal>
-    ensures exact { result ≡ (if nat_lt 16000 (length file.now) then Err LongFile else Ok (packet_of (spelling_of means.q) file.now number)) }
-    ensures codes { IfOk result (λ p. (length p ≡ 128) × AllBelowBase means.q p) }
+    ensures exact { result ≡ (if nat_lt 16000 (length file.now) then Err LongFile else Ok (packet_of (spelling_of F.means.q) file.now number)) }
+    ensures codes { IfOk result (λ p. (length p ≡ 128) × AllBelowBase F.means.q p) }
     ensures carries { OnOk result (File file.now) }
 {
     if file.len() > FILE_MOST {

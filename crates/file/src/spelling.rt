@@ -21,7 +21,7 @@ pub(crate) struct Spelling {
 impl Spelling {
     /// How the symbols of the field spell bytes.
     pub(crate) fn of<F: Field>() -> Spelling
-        ensures exact { result ≡ spelling_of means.q }
+        ensures exact { result ≡ spelling_of F.means.q }
         ensures known { Known result }
     {
         if F::order() < 256 {

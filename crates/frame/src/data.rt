@@ -46,7 +46,7 @@ fn all_zero(codes: &[u16]) -> bool
 
 // How many bytes the slots take: their share of the body.
 fn slot_bytes<C: Carried>() -> usize
-    ensures { result ≡ bytes_for carries 32 }
+    ensures { result ≡ bytes_for C.carries 32 }
 {
     (C::frame_len() - HEAD) * WINDOW / (WINDOW + SYMBOLS)
 }
@@ -93,8 +93,8 @@ fn check<C: Carried>(data: &Data) -> Result<(), Refusal>
 
 // The contents of a frame whose body is left to unpack.
 fn contents<C: Carried>(base: u32, width: u8, body: &[u8]) -> Data
-    requires { bytes_for carries 32 ≤ length body.now }
-    ensures { result ≡ contents_by carries 32 base width body.now }
+    requires { bytes_for C.carries 32 ≤ length body.now }
+    ensures { result ≡ contents_by C.carries 32 base width body.now }
 {
     let (slot_part, symbol_part) = body.split_at(slot_bytes::<C>());
     let mut slots = [0; WINDOW];
@@ -113,9 +113,9 @@ fn contents<C: Carried>(base: u32, width: u8, body: &[u8]) -> Data
 ///
 /// A frame that can be read has proper contents, and is exactly what writing them gives.
 pub fn read_data<C: Carried>(frame: &[u8]) -> Result<Data, Refusal>
-    ensures exact { result ≡ reading C.Field.means carries 32 frame.now }
+    ensures exact { result ≡ reading C.Field.means C.carries 32 frame.now }
     ensures proper { IfOk result (Proper C.Field.means.q 32) }
-    ensures canonical { IfOk result (λ d. frame.now ≡ frame_of carries 32 d) }
+    ensures canonical { IfOk result (λ d. frame.now ≡ frame_of C.carries 32 d) }
 {
     let [kind, b0, b1, b2, b3, width, body @ ..] = frame else {
         return Err(misfit(frame, C::frame_kind()));
@@ -134,8 +134,8 @@ pub fn read_data<C: Carried>(frame: &[u8]) -> Result<Data, Refusal>
 
 // Fills a frame of the kind's length.
 fn fill<C: Carried>(data: &Data, frame: &mut [u8])
-    requires { length frame.old ≡ carries.len }
-    ensures exact { frame.new ≡ frame_of carries 32 «data».now }
+    requires { length frame.old ≡ C.carries.len }
+    ensures exact { frame.new ≡ frame_of C.carries 32 «data».now }
     ensures slots { length «data».now.slots ≡ 32 }
     ensures symbols { length «data».now.symbols ≡ 128 }
 {
@@ -148,10 +148,10 @@ fn fill<C: Carried>(data: &Data, frame: &mut [u8])
 
 /// Writes a data frame at the buffer's start, leaves the rest, and answers the frame's length.
 pub fn write_data<C: Carried>(data: &Data, frame: &mut [u8]) -> Result<usize, Refusal>
-    ensures exact { (result, frame.new) ≡ writing C.Field.means carries 32 «data».now frame.old }
-    ensures accepts { Proper C.Field.means.q 32 «data».now → carries.len ≤ length frame.old → result ≡ Ok carries.len }
+    ensures exact { (result, frame.new) ≡ writing C.Field.means C.carries 32 «data».now frame.old }
+    ensures accepts { Proper C.Field.means.q 32 «data».now → C.carries.len ≤ length frame.old → result ≡ Ok C.carries.len }
     ensures proper { OnOk result (Proper C.Field.means.q 32 «data».now) }
-    ensures comes_back { IfOk result (λ n. reading C.Field.means carries 32 (take n frame.new) ≡ Ok «data».now) }
+    ensures comes_back { IfOk result (λ n. reading C.Field.means C.carries 32 (take n frame.new) ≡ Ok «data».now) }
     ensures rest_left { IfOk result (λ n. drop n frame.new ≡ drop n frame.old) }
     ensures nothing_written { OnErr result (frame.new ≡ frame.old) }
 {

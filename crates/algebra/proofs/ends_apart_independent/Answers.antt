@@ -1,5 +1,5 @@
-use Rattle.algebra.proofs.Independence.{ends-apart-independent}
+use Rattle.algebra.proofs.Independence.{ends_apart_independent}
 use Rattle.algebra.proofs.ends_apart_independent.Goals as goal
 
 pub returns : goal.returns
-returns c = ends-apart-independent
+returns c = ends_apart_independent

@@ -32,16 +32,16 @@ laws g = record {
   reverse = plain_laws 400;
 }
 
-pub returns-in-default : goal.returns-in-default
+pub returns-in_default : goal.returns-in_default
 unfolding LeadsOn
-returns-in-default g c =
+returns-in_default g c =
     let p = linked g.C.Field.means g.C.Carried.carries g.S.Source.means in
     let σ = state_of g.T.Sends.window g.T.Sends.source c.loop-answer.transfer in
     let τ = state_of g.T.Sends.window g.T.Sends.source c.fetch.new.self in
     let v = c.loop-answer.progress in
     let after = c.fetch.new.numbers in
     let room : 4096 ≤ length v.numbers = omega (arith, c.loop-answer.invariant.0) in
-    let e = answered p σ τ v.numbers after c.in-Ok.answer c.in-Ok.ensures.exact None c.in-default.is in
+    let e = answered p σ τ v.numbers after c.in-Ok.answer c.in-Ok.ensures.exact None c.in_default.is in
     record {
       leads = λ file before shut t d h.
           let on = c.loop-answer.invariant.2 file before shut t d h in (
@@ -55,11 +55,11 @@ returns-in-default g c =
           record { few = omega (arith, was.few, fewer, popped-few σ.forward.queue); released = was.released };
     }
 
-pub overflow-add-progress : goal.overflow-add-progress
-overflow-add-progress g c = omega (arith, (c.loop-answer.invariant.1 256004 c.requires.0).few)
+pub overflow_add-progress : goal.overflow_add-progress
+overflow_add-progress g c = omega (arith, (c.loop-answer.invariant.1 256004 c.requires.0).few)
 
-pub overflow-add-progress-in-Fresh : goal.overflow-add-progress-in-Fresh
-overflow-add-progress-in-Fresh g c =
+pub overflow_add-progress-in-Fresh : goal.overflow_add-progress-in-Fresh
+overflow_add-progress-in-Fresh g c =
     let p = linked g.C.Field.means g.C.Carried.carries g.S.Source.means in
     let σ = state_of g.T.Sends.window g.T.Sends.source c.loop-answer.transfer in
     let τ = state_of g.T.Sends.window g.T.Sends.source c.fetch.new.self in
@@ -122,9 +122,9 @@ loop-answer-smaller-in-Continue· g c =
     let e = answered p σ τ v.numbers after c.in-Ok.answer c.in-Ok.ensures.exact (Some (Fresh n)) (c.in-Some.is ∙ ap Some c.in-Fresh.is) in
     omega (arith, fetches_fewer g.C.Field.means g.C.Carried.carries g.S.Source.means σ τ v.numbers after room (Ok (Some (Fresh n))) e refl)
 
-pub returns-in-err-unload : goal.returns-in-err-unload
+pub returns-in_err-unload : goal.returns-in_err-unload
 unfolding LeadsOn Unloads
-returns-in-err-unload g c =
+returns-in_err-unload g c =
     let p = linked g.C.Field.means g.C.Carried.carries g.S.Source.means in
     let σ = state_of g.T.Sends.window g.T.Sends.source c.loop-answer.transfer in
     let τ = state_of g.T.Sends.window g.T.Sends.source c.fetch.new.self in
@@ -140,15 +140,15 @@ returns-in-err-unload g c =
           let on = c.loop-answer.invariant.2 file before shut t d h in
           let begins = fresh-begins p file before shut t on.so_far σ τ v c.loop-answer.buffer on.follows room after n e (laws g) in
           let unloaded = c.unload.ensures file before v.released on.follows.runs.is_file space on.follows.filled begins in
-          absurd (not_both _ _ _ unloaded.0 c.in-err-unload.was);
+          absurd (not_both _ _ _ unloaded.0 c.in_err-unload.was);
       small = λ k h.
           let was = c.loop-answer.invariant.1 k h in
           let few = few-fresh p σ τ v.numbers after room (Ok (Some (Fresh n))) e in
           record { few = omega (arith, was.few, fewer); released = omega (arith, was.released, few) };
     }
 
-pub overflow-add-progress-in-Repeat : goal.overflow-add-progress-in-Repeat
-overflow-add-progress-in-Repeat g c = omega (arith, (c.loop-answer.invariant.1 256004 c.requires.0).few)
+pub overflow_add-progress-in-Repeat : goal.overflow_add-progress-in-Repeat
+overflow_add-progress-in-Repeat g c = omega (arith, (c.loop-answer.invariant.1 256004 c.requires.0).few)
 
 pub loop-answer-smaller-in-Repeat : goal.loop-answer-smaller-in-Repeat
 loop-answer-smaller-in-Repeat g c =
@@ -180,8 +180,8 @@ loop-answer-preserved-in-Repeat g c =
           (fetched_repeat p file before shut t on.so_far σ τ v c.loop-answer.buffer on.follows room after e),
     )
 
-pub overflow-add-progress-in-Err : goal.overflow-add-progress-in-Err
-overflow-add-progress-in-Err g c = omega (arith, (c.loop-answer.invariant.1 256004 c.requires.0).few)
+pub overflow_add-progress-in-Err : goal.overflow_add-progress-in-Err
+overflow_add-progress-in-Err g c = omega (arith, (c.loop-answer.invariant.1 256004 c.requires.0).few)
 
 pub loop-answer-smaller : goal.loop-answer-smaller
 loop-answer-smaller g c =

@@ -5,14 +5,14 @@ use Rattle.delivery.specs.Unloading.{Unloads}
 use Rattle.delivery.proofs.Answers.{not_both}
 use Rattle.delivery.proofs.exchange.unload.Goals as goal
 
-pub returns-in-err-add : goal.returns-in-err-add
+pub returns-in_err-add : goal.returns-in_err-add
 unfolding Unloads
-returns-in-err-add g c file before k is room filled begins =
+returns-in_err-add g c file before k is room filled begins =
     let i = c.loop-i.i in
     let wide : 128 * (i + 1) - 128 * i ≡ 128 = omega arith in
     let packet = ap (λ (n : ℕ). take n (drop (128 * i) c.args.numbers.now)) wide ∙ begins i c.loop-i-test.true in
     let space : 16000 ≤ length c.loop-i.buffer = omega arith in
-    absurd (not_both _ _ _ (c.add.ensures.fills file before (k + i) is space (c.loop-i.invariant file before k is room filled begins) packet).0 c.in-err-add.was)
+    absurd (not_both _ _ _ (c.add.ensures.fills file before (k + i) is space (c.loop-i.invariant file before k is room filled begins) packet).0 c.in_err-add.was)
 
 pub loop-i-preserved : goal.loop-i-preserved
 loop-i-preserved g c file before k is room filled begins =

@@ -13,8 +13,8 @@ loop-number-init g c =
     let p = linked g.C.Field.means g.C.Carried.carries g.S.Source.means in
     (refl, λ v before buffer d h. admits_begin p c.args.file.now before c.args.admitted d (open_state c.args.transfer.now) v buffer h)
 
-pub returns-in-err-symbols : goal.returns-in-err-symbols
-returns-in-err-symbols g c = absurd (packet_there (length c.args.file.now) _ _ c.requires.0 c.in-err-symbols.ensures.exact)
+pub returns-in_err-symbols : goal.returns-in_err-symbols
+returns-in_err-symbols g c = absurd (packet_there (length c.args.file.now) _ _ c.requires.0 c.in_err-symbols.ensures.exact)
 
 pub returns-in-Err : goal.returns-in-Err
 unfolding AdmitsOn
@@ -24,7 +24,7 @@ returns-in-Err g c =
     let k = c.loop-number.number in
     let σ = open_state c.loop-number.transfer in
     let τ = open_state c.admit.new.self in
-    let is = packet-is (length file) c.in-ok-symbols.symbols (file_packet p file k) c.requires.0 c.in-ok-symbols.ensures.exact in
+    let is = packet-is (length file) c.in_ok-symbols.symbols (file_packet p file k) c.requires.0 c.in_ok-symbols.ensures.exact in
     let e = c.in-Err.ensures.exact ∙ ap (admits 32 p σ) is in
     let below : k < count_of p file = omega (arith, c.loop-number-test.true, c.requires.1.0) in (
       omega (arith, c.loop-number-test.true),
@@ -39,7 +39,7 @@ loop-number-preserved g c =
     let k = c.loop-number.number in
     let σ = open_state c.loop-number.transfer in
     let τ = open_state c.admit.new.self in
-    let is = packet-is (length file) c.in-ok-symbols.symbols (file_packet p file k) c.requires.0 c.in-ok-symbols.ensures.exact in
+    let is = packet-is (length file) c.in_ok-symbols.symbols (file_packet p file k) c.requires.0 c.in_ok-symbols.ensures.exact in
     let e = c.in-Ok.ensures.exact ∙ ap (admits 32 p σ) is in
     let below : k < count_of p file = omega (arith, c.loop-number-test.true, c.requires.1.0) in (
       admits-forward p σ τ (file_packet p file k) _ e ∙ c.loop-number.invariant.0,

@@ -14,8 +14,8 @@ use Rattle.delivery.proofs.rounds.open_rounds.Goals as goal
 pub loop-made-init : goal.loop-made-init
 loop-made-init g c = (omega arith, c.requires.small, λ d h. (d, h, refl))
 
-pub returns-in-err-admitted : goal.returns-in-err-admitted
-returns-in-err-admitted g c = absurd c.in-err-admitted.ensures
+pub returns-in_err-admitted : goal.returns-in_err-admitted
+returns-in_err-admitted g c = absurd c.in_err-admitted.ensures
 
 pub returns-then-admitted-count : goal.returns-then-admitted-count
 unfolding AdmitsOn
@@ -24,9 +24,9 @@ returns-then-admitted-count g c =
     let file = c.args.file.now in
     let before = c.args.buffer.now in
     let made = c.loop-made.made in
-    let came = c.in-ok-admitted.ensures in
-    let all : c.in-ok-admitted.admitted ≡ count_of p file = c.if-admitted-count.true ∙ c.requires.file.1.1 in
-    let τ = open_state c.admit_all_lem.new.transfer in
+    let came = c.in_ok-admitted.ensures in
+    let all : c.in_ok-admitted.admitted ≡ count_of p file = c.if-admitted-count.true ∙ c.requires.file.1.1 in
+    let τ = open_state c.admit_all.new.transfer in
     let left : 0 < 64000 - made = omega (arith, c.loop-made-test.true) in
     record {
       courses = λ d h.
@@ -45,17 +45,17 @@ returns-then-admitted-count g c =
 pub exchange-requires : goal.exchange-requires
 exchange-requires g c =
     let small = c.loop-made.invariant.1 in
-    let same = ap (λ (x : ScriptedLink). x.queue.count) c.in-ok-admitted.ensures.2 in
+    let same = ap (λ (x : ScriptedLink). x.queue.count) c.in_ok-admitted.ensures.2 in
     (record { few = omega (arith, small.few, same, c.loop-made-test.true); released = small.released }, omega (arith, c.requires.file.1.0))
 
-pub returns-in-err-exchange : goal.returns-in-err-exchange
+pub returns-in_err-exchange : goal.returns-in_err-exchange
 unfolding AdmitsOn LeadsOn
-returns-in-err-exchange g c = record {
+returns-in_err-exchange g c = record {
   courses = λ d h.
       let so_far = c.loop-made.invariant.2 d h in
-      let follows = c.in-ok-admitted.ensures.1 c.loop-made.progress c.args.buffer.now c.loop-made.buffer so_far.0 so_far.1 in
-      absurd (not_both _ _ _ (c.exchange.ensures.leads c.args.file.now c.args.buffer.now false _ _ follows).0 c.in-err-exchange.was);
-  small = let p = err_from_is_err_and c.from-residual-in-err-exchange.result c.from-residual-in-err-exchange.ensures.1 in rw p.1 tt;
+      let follows = c.in_ok-admitted.ensures.1 c.loop-made.progress c.args.buffer.now c.loop-made.buffer so_far.0 so_far.1 in
+      absurd (not_both _ _ _ (c.exchange.ensures.leads c.args.file.now c.args.buffer.now false _ _ follows).0 c.in_err-exchange.was);
+  small = let p = err_from_is_err_and c.from_residual-in_err-exchange.result c.from_residual-in_err-exchange.ensures.1 in rw p.1 tt;
 }
 
 pub loop-made-preserved : goal.loop-made-preserved
@@ -64,8 +64,8 @@ loop-made-preserved g c =
     let p = linked g.C.Field.means g.C.Carried.carries g.S.Source.means in
     let file = c.args.file.now in
     let made = c.loop-made.made in
-    let t = c.in-ok-admitted.admitted in
-    let admits = c.in-ok-admitted.ensures in
+    let t = c.in_ok-admitted.admitted in
+    let admits = c.in_ok-admitted.ensures in
     let same = ap (λ (x : ScriptedLink). x.queue.count) admits.2 in
     let before = c.args.buffer.now in
     let small = c.exchange.ensures.small (4 * made) (subst (Small (4 * made) c.loop-made.progress) (sym admits.2) c.loop-made.invariant.1) in

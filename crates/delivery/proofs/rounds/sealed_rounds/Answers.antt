@@ -9,11 +9,11 @@ use Rattle.delivery.proofs.Answers.{not_both}
 use Rattle.delivery.proofs.Rounding.{done-is, closing-none, closing-ends, closing_goes_on, rounds-closing}
 use Rattle.delivery.proofs.rounds.sealed_rounds.Goals as goal
 
-pub returns-in-err-exchange : goal.returns-in-err-exchange
+pub returns-in_err-exchange : goal.returns-in_err-exchange
 unfolding LeadsOn
-returns-in-err-exchange g c file before d h =
+returns-in_err-exchange g c file before d h =
     let so_far = c.loop-round.invariant.1 file before d h in
-    absurd (not_both _ _ _ (c.exchange.ensures.leads file before true c.args.count so_far.0 so_far.1).0 c.in-err-exchange.was)
+    absurd (not_both _ _ _ (c.exchange.ensures.leads file before true c.args.count so_far.0 so_far.1).0 c.in_err-exchange.was)
 
 pub returns-then-progress-count : goal.returns-then-progress-count
 unfolding LeadsOn

@@ -5,7 +5,7 @@ use Rattle.file.proofs.packets.held.Goals as goal
 
 pub returns-then-i-lt4 : goal.returns-then-i-lt4
 returns-then-i-lt4 c =
-    ap (λ (bytes : List ℕ). get_or bytes c.args.i 0) (c.to-be-bytes-length.ensures ∙ sym (four _))
+    ap (λ (bytes : List ℕ). get_or bytes c.args.i 0) (c.to_be_bytes-length.ensures ∙ sym (four _))
     ∙ sym (loaded-length c.args.file.now c.args.i (omega arith))
 
 pub returns-in-Some : goal.returns-in-Some

@@ -29,5 +29,5 @@ returns g c =
     record {
       exact = cond_above 16000 (length file) _ _ _ short (ap Ok e);
       codes = (c.loop-i.invariant.0, rw e (packet-codes q g.met.F.Field.laws.least file number));
-      carries = record { short = short; bytes = λ i. omega (arith, c.type-inv.file i) };
+      carries = record { short = short; bytes = λ i. omega (arith, c.type_inv.file i) };
     }

@@ -8,4 +8,4 @@ returns c =
     let slots = c.args.«data».now.slots in
     let width = c.args.«data».now.width in
     let left : length (drop width slots) ≤ 32 - width = simp length-drop (omega arith) in
-    c.all-zero.ensures ∙ ap (every (λ x. eqb x 0)) (take_all (32 - width) (drop width slots) left)
+    c.all_zero.ensures ∙ ap (every (λ x. eqb x 0)) (take_all (32 - width) (drop width slots) left)

@@ -16,41 +16,41 @@ cross-requires g c =
     let room : 4 + length c.args.file.now ≤ s.room * 16004 =
     omega (arith, mul-le 1 16004 s.room 16004 (omega (arith, room-least s (known g.C.Field.means.q))) (omega arith)) in
     record {
-      packet = (omega (arith, c.packet-count-number-end.ensures.least 16004 room), c.in-ok-symbols.ensures.codes.1);
+      packet = (omega (arith, c.packet_count-number-end.ensures.least 16004 room), c.in_ok-symbols.ensures.codes.1);
       room = omega arith;
       waits = (c.loop-number.invariant.0, c.loop-number.invariant.1);
     }
 
-pub returns-in-err-unload : goal.returns-in-err-unload
-returns-in-err-unload g c =
+pub returns-in_err-unload : goal.returns-in_err-unload
+returns-in_err-unload g c =
     let s = spelling_of g.C.Field.means.q in
     let file = c.args.file.now in
     let k = c.loop-number.number in
-    let p = c.in-ok-symbols.symbols in
-    let is : p ≡ packet_of s file k = packet-is (length file) p _ c.requires.0 c.in-ok-symbols.ensures.exact in
-    let one : c.in-ok-released.released ≡ 1 = cc c.in-ok-released.ensures.answer in
-    let begins = λ (i : ℕ) (few : i < c.in-ok-released.released).
+    let p = c.in_ok-symbols.symbols in
+    let is : p ≡ packet_of s file k = packet-is (length file) p _ c.requires.0 c.in_ok-symbols.ensures.exact in
+    let one : c.in_ok-released.released ≡ 1 = cc c.in_ok-released.ensures.answer in
+    let begins = λ (i : ℕ) (few : i < c.in_ok-released.released).
     ap (λ (xs : List ℕ). take 128 (drop (128 * i) xs)) c.cross.ensures.released
-    ∙ first-packet p c.loop-number.numbers c.in-ok-symbols.ensures.codes.0 i _ one few
+    ∙ first-packet p c.loop-number.numbers c.in_ok-symbols.ensures.codes.0 i _ one few
     ∙ is ∙ ap (packet_of s file) (let first : k ≡ k + i = omega arith in first) in
     let space : 16000 ≤ length c.loop-number.buffer = omega arith in
-    let took = c.unload.ensures file k c.in-ok-symbols.ensures.carries space c.loop-number.invariant.2 begins in
-    absurd (not_both _ _ _ took.0 c.in-err-unload.was)
+    let took = c.unload.ensures file k c.in_ok-symbols.ensures.carries space c.loop-number.invariant.2 begins in
+    absurd (not_both _ _ _ took.0 c.in_err-unload.was)
 
 pub loop-number-preserved : goal.loop-number-preserved
 loop-number-preserved g c =
     let s = spelling_of g.C.Field.means.q in
     let file = c.args.file.now in
     let k = c.loop-number.number in
-    let p = c.in-ok-symbols.symbols in
-    let is : p ≡ packet_of s file k = packet-is (length file) p _ c.requires.0 c.in-ok-symbols.ensures.exact in
-    let one : c.in-ok-released.released ≡ 1 = cc c.in-ok-released.ensures.answer in
-    let begins = λ (i : ℕ) (few : i < c.in-ok-released.released).
+    let p = c.in_ok-symbols.symbols in
+    let is : p ≡ packet_of s file k = packet-is (length file) p _ c.requires.0 c.in_ok-symbols.ensures.exact in
+    let one : c.in_ok-released.released ≡ 1 = cc c.in_ok-released.ensures.answer in
+    let begins = λ (i : ℕ) (few : i < c.in_ok-released.released).
     ap (λ (xs : List ℕ). take 128 (drop (128 * i) xs)) c.cross.ensures.released
-    ∙ first-packet p c.loop-number.numbers c.in-ok-symbols.ensures.codes.0 i _ one few
+    ∙ first-packet p c.loop-number.numbers c.in_ok-symbols.ensures.codes.0 i _ one few
     ∙ is ∙ ap (packet_of s file) (let first : k ≡ k + i = omega arith in first) in
     let space : 16000 ≤ length c.loop-number.buffer = omega arith in
-    let took = c.unload.ensures file k c.in-ok-symbols.ensures.carries space c.loop-number.invariant.2 begins in (
+    let took = c.unload.ensures file k c.in_ok-symbols.ensures.carries space c.loop-number.invariant.2 begins in (
       c.cross.ensures.waits,
       c.cross.ensures.tally,
       subst (λ (n : ℕ). Filled s file (k + n) c.unload.new.filling.taken c.unload.new.filling.size c.unload.new.buffer) one took.1,
@@ -66,7 +66,7 @@ returns-in-Ok g c =
     let done = c.in-Ok.ensures.completes file buffer c.loop-number.number filled in
     let size = c.in-Ok.ensures.exact.1 in
     let fits : filling.size ≤ length buffer = omega (arith, filling.short) in
-    let count : c.loop-number.number ≡ packets (spelling_of q) (length file) = omega (arith, c.packet-count-number-end.ensures.exact) in (
+    let count : c.loop-number.number ≡ packets (spelling_of q) (length file) = omega (arith, c.packet_count-number-end.ensures.exact) in (
       c.loop-number.invariant.1 ∙ ap all_fresh count,
       done.1,
       ap (λ (n : ℕ). take n buffer) (sym done.1 ∙ size)

@@ -4,13 +4,13 @@ use Rattle.file.specs.Spelling.{spelling_of}
 use Rattle.job.proofs.Crossing.{not_both}
 use Rattle.job.proofs.carry.unload.Goals as goal
 
-pub returns-in-err-add : goal.returns-in-err-add
-returns-in-err-add g c file k is room filled begins =
+pub returns-in_err-add : goal.returns-in_err-add
+returns-in_err-add g c file k is room filled begins =
     let i = c.loop-i.i in
     let wide : 128 * (i + 1) - 128 * i ≡ 128 = omega arith in
     let packet = ap (λ (n : ℕ). take n (drop (128 * i) c.args.numbers.now)) wide ∙ begins i c.loop-i-test.true in
     let space : 16000 ≤ length c.loop-i.buffer = omega arith in
-    absurd (not_both _ _ _ (c.add.ensures.fills file (k + i) is space (c.loop-i.invariant file k is room filled begins) packet).0 c.in-err-add.was)
+    absurd (not_both _ _ _ (c.add.ensures.fills file (k + i) is space (c.loop-i.invariant file k is room filled begins) packet).0 c.in_err-add.was)
 
 pub loop-i-preserved : goal.loop-i-preserved
 loop-i-preserved g c file k is room filled begins =

@@ -3,16 +3,16 @@ use Rattle.std.proofs.lemmas.List.{at_drop_more, at_drop_all}
 use Rattle.job.specs.Line.{letters}
 use Rattle.job.proofs.line.all_letters.Goals as goal
 
-pub returns-then-not-is-letter : goal.returns-then-not-is-letter
-returns-then-not-is-letter c =
+pub returns-then-not-is_letter : goal.returns-then-not-is_letter
+returns-then-not-is_letter c =
     let i = c.loop-letter.letter-index in
-    ap (λ (b : Bool). b && letters (drop (i + 1) c.args.script.now)) c.if-not-is-letter.ensures
+    ap (λ (b : Bool). b && letters (drop (i + 1) c.args.script.now)) c.if-not-is_letter.ensures
     ∙ sym (at_drop_more letters c.args.script.now i 0 c.loop-letter-test.true) ∙ c.loop-letter.invariant
 
 pub loop-letter-preserved : goal.loop-letter-preserved
 loop-letter-preserved c =
     let i = c.loop-letter.letter-index in
-    ap (λ (b : Bool). b && letters (drop (i + 1) c.args.script.now)) c.if-not-is-letter.ensures
+    ap (λ (b : Bool). b && letters (drop (i + 1) c.args.script.now)) c.if-not-is_letter.ensures
     ∙ sym (at_drop_more letters c.args.script.now i 0 c.loop-letter-test.true) ∙ c.loop-letter.invariant
 
 pub returns : goal.returns

@@ -22,12 +22,12 @@ returns-in-Ok g c =
       stands = call-stands 32 (lit< tt) refl p laws σ _ (send (Ok c.in-Ok.length)) (refl, exact);
     }
 
-pub returns-in-default : goal.returns-in-default
-returns-in-default g c =
+pub returns-in_default : goal.returns-in_default
+returns-in_default g c =
     let p = parts g.C.Field.means g.C.Carried.carries g.S.Source.means g.D.Link.means g.R.Link.means in
     let σ = state_of g.T.Sends.window g.T.Sends.source c.args.self.now in
     let frame = c.send-answer.new.frame in
-    let none = ap (λ (r : Result ℕ Refusal). with_put 32 p σ r frame) (sym c.in-default.is) in
+    let none = ap (λ (r : Result ℕ Refusal). with_put 32 p σ r frame) (sym c.in_default.is) in
     let exact = send-done 32 p σ g.met.C.Carried.lays refl _ _ _ _ (replicate 400 0) frame (lit≤ tt) c.send-answer.ensures.exact c.send-answer.ensures.same none in
     let laws : PartsLaws 32 p = record { means = g.met.C.Field.laws; carries = g.met.C.Carried.lays; draws = g.met.S.Source.laws; forward = g.met.D.Link.laws; reverse = g.met.R.Link.laws } in
     record {

@@ -7,7 +7,7 @@ use Rattle.field.proofs.residues.ResiduesField.inverse.Goals as goal
 pub loop-turn-preserved : goal.loop-turn-preserved
 loop-turn-preserved c =
     let a = c.args.a % 257 in
-    let i = c.loop-turn.-turn in
+    let i = c.loop-turn._turn in
     let p = c.loop-turn.invariant.0 in
     let s = c.loop-turn.invariant.1 in (
       c.mul-power.ensures

@@ -4,19 +4,19 @@ use Rattle.file.proofs.Fills.{all, not_all}
 use Rattle.file.proofs.Spellings.{known}
 use Rattle.file.proofs.filling.Filling.finish.Goals as goal
 
-pub returns-then-is-complete : goal.returns-then-is-complete
-returns-then-is-complete g c =
+pub returns-then-is_complete : goal.returns-then-is_complete
+returns-then-is_complete g c =
     let q = g.F.Field.means.q in
-    let e = sym c.if-is-complete.ensures in
+    let e = sym c.if-is_complete.ensures in
     record {
       exact = (e, refl);
       completes = λ file buffer k filled. all (spelling_of q) (known q) file k c.args.self.taken c.args.self.size buffer filled e;
     }
 
-pub returns-else-is-complete : goal.returns-else-is-complete
-returns-else-is-complete g c =
+pub returns-else-is_complete : goal.returns-else-is_complete
+returns-else-is_complete g c =
     let q = g.F.Field.means.q in
-    let e = sym c.if-is-complete.ensures in
+    let e = sym c.if-is_complete.ensures in
     record {
       exact = (e, refl, refl, refl);
       completes = λ file buffer k filled. (not_all (spelling_of q) (known q) file k c.args.self.taken c.args.self.size buffer filled e, refl);

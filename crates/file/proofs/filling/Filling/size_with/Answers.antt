@@ -9,6 +9,6 @@ returns-then-self-gt0 g c = sym (size_later c.args.spelling _ _ c.args.packet.no
 pub returns : goal.returns
 unfolding length_in
 returns g c =
-    let e : c.from-be-bytes.result ≡ length_in c.args.spelling c.args.packet.now =
-    omega (arith, c.packet_byte.ensures, c.packet-byte-2.ensures, c.packet-byte-3.ensures, c.packet-byte-4.ensures, c.from-be-bytes.ensures) in
+    let e : c.from_be_bytes.result ≡ length_in c.args.spelling c.args.packet.now =
+    omega (arith, c.packet_byte.ensures, c.packet_byte-2.ensures, c.packet_byte-3.ensures, c.packet_byte-4.ensures, c.from_be_bytes.ensures) in
     e ∙ sym (size-first c.args.spelling _ _ c.args.packet.now (omega arith))

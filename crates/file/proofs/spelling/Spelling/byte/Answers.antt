@@ -5,13 +5,13 @@ use Rattle.std.proofs.lemmas.List.{take_all}
 use Rattle.file.proofs.Digits.{step_below}
 use Rattle.file.proofs.spelling.Spelling.byte.Goals as goal
 
-pub overflow-mul-byte : goal.overflow-mul-byte
-overflow-mul-byte c =
+pub overflow_mul-byte : goal.overflow_mul-byte
+overflow_mul-byte c =
     let m = step_below c.args.self c.requires.0 c.args.symbols.now c.requires.1.0 c.requires.1.1 c.loop-symbol.symbol-index c.loop-symbol.byte (omega arith) c.loop-symbol.invariant in
     omega arith
 
-pub overflow-add-byte : goal.overflow-add-byte
-overflow-add-byte c =
+pub overflow_add-byte : goal.overflow_add-byte
+overflow_add-byte c =
     let m = step_below c.args.self c.requires.0 c.args.symbols.now c.requires.1.0 c.requires.1.1 c.loop-symbol.symbol-index c.loop-symbol.byte (omega arith) c.loop-symbol.invariant in
     omega arith
 

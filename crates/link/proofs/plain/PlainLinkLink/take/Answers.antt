@@ -3,11 +3,11 @@ use Rattle.link.specs.OfPlain.{plain}
 use Rattle.link.proofs.Taking.{takes_none, takes-some, state-after, queue-after}
 use Rattle.link.proofs.plain.PlainLinkLink.take.Goals as goal
 
-pub returns-in-default : goal.returns-in-default
-returns-in-default c =
+pub returns-in_default : goal.returns-in_default
+returns-in_default c =
     let q = c.args.self.now in
     let b = c.args.buffer.now in
-    let exact = takes_none 400 q b (omega arith) c.pop.new.self c.pop.ensures.after c.in-default.ensures.front in
+    let exact = takes_none 400 q b (omega arith) c.pop.new.self c.pop.ensures.after c.in_default.ensures.front in
     record { exact = exact; queue = queue-after 400 (ltb (length b) 400) q c.pop.new.self (state-after 400 (plain 400) q b exact) }
 
 pub returns : goal.returns

@@ -13,7 +13,7 @@ pub returns : goal.returns
 unfolding opened
 returns c =
     let cs = c.args.script.now in
-    let passed : proper 64 cs ≡ true = proper-script 64 cs (omega arith) (omega arith) c.if-not-all-known.ensures in
+    let passed : proper 64 cs ≡ true = proper-script 64 cs (omega arith) (omega arith) c.if-not-all_known.ensures in
     let exact : _ = search (rules, overwrites) in
     let opens = cond-true (proper 64 cs) (Ok (opened 64 cs)) (Err BadScript) passed in
     record {

@@ -13,12 +13,12 @@ loop-count-preserved c =
     let n = c.loop-count.count in
     let k : 128 * n + 128 - 128 * n ≡ 128 = omega arith in
     so_far_more _ _ _ _ _ _ c.loop-count.invariant c.in-Some.packet _ _ c.in-Some.ensures.packet (search rules) c.in-Some.ensures.state
-    (ap (λ j. put_mid (128 * n) j c.loop-count.numbers c.copy-from-slice.new.self) k ∙ ap (put_mid (128 * n) 128 c.loop-count.numbers) c.copy-from-slice.ensures.after)
+    (ap (λ j. put_mid (128 * n) j c.loop-count.numbers c.copy_from_slice.new.self) k ∙ ap (put_mid (128 * n) 128 c.loop-count.numbers) c.copy_from_slice.ensures.after)
 
-pub returns-in-default : goal.returns-in-default
-returns-in-default c =
-    ap (λ s. arrival (Ok (Fresh c.loop-count.count)) s c.loop-count.numbers) c.in-default.ensures.state
-    ∙ so_far_stop _ _ _ _ _ _ c.loop-count.invariant (omega arith) c.in-default.ensures.packet
+pub returns-in_default : goal.returns-in_default
+returns-in_default c =
+    ap (λ s. arrival (Ok (Fresh c.loop-count.count)) s c.loop-count.numbers) c.in_default.ensures.state
+    ∙ so_far_stop _ _ _ _ _ _ c.loop-count.invariant (omega arith) c.in_default.ensures.packet
 
 pub returns : goal.returns
 returns c = so_far-all _ _ _ _ _ _ c.loop-count.invariant (omega arith)

@@ -17,8 +17,8 @@ loop-i-preserved g c =
     let slots = c.args.slots.now in
     let i = c.loop-i.i in
     let f : ℕ → ℕ → ℕ = λ p i. times m (get_or slots i 0) (get_or (packet_at 32 x (x.unseen + i)) p 0) in (
-      c.type-inv.sum,
-      λ p h. sum_more m i (f p) _ _ _ (c.loop-i.invariant.1 p h) (ap (λ (xs : List ℕ). times m (get_or slots i 0) (get_or xs p 0)) c.packet.ensures) (c.add-multiple.ensures p h),
+      c.type_inv.sum,
+      λ p h. sum_more m i (f p) _ _ _ (c.loop-i.invariant.1 p h) (ap (λ (xs : List ℕ). times m (get_or slots i 0) (get_or xs p 0)) c.packet.ensures) (c.add_multiple.ensures p h),
     )
 
 pub returns : goal.returns
