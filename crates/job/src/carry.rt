@@ -83,7 +83,7 @@ fn write_alone<C: Carried>(
     frame: &mut [u8],
 ) -> Result<usize, Refusal>
     requires { (number < 65536) × ((AllBelowBase C.Field.means.q symbols) × (400 ≤ length frame.old)) }
-    ensures { MatchResult result (λ n. (n ≤ 400) × (reading C.Field.means carries 32 (take n frame.new) ≡ Ok (alone 32 number symbols))) (λ _. ⊥) }
+    ensures { MatchResult result (λ n. (n ≤ 400) × (reading C.Field.means C.carries 32 (take n frame.new) ≡ Ok (alone 32 number symbols))) (λ _. ⊥) }
 {
     let mut slots = [0; WINDOW];
     slots[0] = 1;

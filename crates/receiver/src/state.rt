@@ -151,7 +151,7 @@ impl State {
         numbers: &mut [u16],
     ) -> Result<Answer, Refusal>
         requires { self.old.released ≤ 65536 }
-        ensures { arrival result self.new numbers.new ≡ arrived C.Field.means carries 32 self.old frame.now numbers.old }
+        ensures { arrival result self.new numbers.new ≡ arrived C.Field.means C.carries 32 self.old frame.now numbers.old }
     {
         if numbers.len() < 4096 {
             return Err(Refusal::ShortBuffer);

@@ -6,6 +6,7 @@ use mathlib.Core.List.{Memᴰ}
 use Rattle.std.proofs.lemmas.List.{ext_get_or, get_or-take, length-take-le, take-append-drop}
 use Rattle.std.proofs.lemmas.Bool.{cases_lt}
 use Rattle.frame.proofs.Frames.{read-written}
+use Rattle.frame.proofs.Rules.{flawless}
 use Rattle.frame.specs.DataFrame.{reading}
 use Rattle.frame.specs.ReportFrame.{report_of}
 use Rattle.frame.specs.declared.data.Data.{Data}
@@ -58,7 +59,7 @@ module _ {S D R : Type 0} (w : ℕ) (pos : 0 < w) (whole : w % 8 ≡ 0) (p : Par
         let proper = combined-proper w p.means laws.means p.carries p.draws laws.draws σ.window s σ.source some in
         record {
           says = d;
-          read = read-written p.means laws.carries whole d proper;
+          read = read-written p.means laws.carries whole d proper (flawless p.means.q w d proper);
           coding = record {
             fits = fits w whole p.means laws.means p.carries laws.carries p.draws laws.draws σ.window s σ.source (admitted log) h some;
             ends = λ k l. row-after d.base d.slots d.width proper.none_past k (omega (arith, h.many));

@@ -7,6 +7,8 @@ use Rattle.field.specs.Field.{Means}
 use Rattle.frame.specs.DataFrame.{reading}
 use Rattle.frame.specs.declared.data.Data.{Data}
 use Rattle.frame.proofs.Frames.{read-written}
+use Rattle.frame.proofs.Rules.{flawless}
+use Rattle.frame.specs.Proper.{Proper}
 use Rattle.algebra.specs.Combinations.{Independent, rows_at}
 use Rattle.algebra.specs.Frames.{Frame}
 use Rattle.algebra.proofs.Frames.{row-slot_zero}
@@ -106,6 +108,11 @@ module _ {S D R : Type 0} (w : ℕ) (whole : w % 8 ≡ 0) (p : Parts S D R) (law
     abbrev says : Data
     says = combined w p.means h.state.window (p.draws.slots h.state.source p.means.q (width h.state.window))
 
+    own : Proper p.means.q w says
+    own =
+        combined-proper w p.means laws.means p.carries p.draws laws.draws h.state.window
+        (sound w p x a b h.past h.state h.run) h.state.source h.some
+
     -- it tells of its own draw
     own_told : Told w p u n frames (p.draws.slots h.state.source p.means.q n)
     own_told = record {
@@ -114,9 +121,7 @@ module _ {S D R : Type 0} (w : ℕ) (whole : w % 8 ≡ 0) (p : Parts S D R) (law
       says = says;
       read =
           ap (reading p.means p.carries w) h.frame
-          ∙ read-written p.means laws.carries whole says
-          (combined-proper w p.means laws.means p.carries p.draws laws.draws h.state.window
-          (sound w p x a b h.past h.state h.run) h.state.source h.some);
+          ∙ read-written p.means laws.carries whole says own (flawless p.means.q w says own);
       base = base_u;
       wide = wide-n;
       row = ap (p.draws.slots h.state.source p.means.q) wide-n;

@@ -6,9 +6,9 @@ use Rattle.receiver.specs.Arrival.{arrival}
 use Rattle.receiver.specs.Log.{call}
 use Rattle.receiver.proofs.receiver.Receiver.arrive.Goals as goal
 
-pub invariant-of-self : goal.invariant-of-self
-invariant-of-self g c =
-    (arrived-bounded g.C.Field.means g.C.Carried.carries 32 c.args.self.now.state c.args.frame.now c.args.numbers.now _ c.arrive.ensures c.args.self.now.bounded, tt)
+pub invariant_of-self : goal.invariant_of-self
+invariant_of-self g c =
+    record { bounded = arrived-bounded g.C.Field.means g.C.Carried.carries 32 c.args.self.now.state c.args.frame.now c.args.numbers.now _ c.arrive.ensures c.args.self.now.bounded }
 
 pub returns : goal.returns
 returns g c =
