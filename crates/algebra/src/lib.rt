@@ -2,6 +2,8 @@
 //!
 //! No code, but functions that name theorems: each has its theorem as its contract and does nothing. What a receiver
 //! promises by these words stands in `specs/Promises.antt`.
+#![tactic(auto)]
+
 ghost use Rattle.algebra.specs.Theorems.{ReleaseExists, ReleaseIsDetermined, ReleaseIsCounted, WindowDecodes, EndsApartIndependent, SpansGrow};
 
 /// Frames that some stream fits have an exact release.

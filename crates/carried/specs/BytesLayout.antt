@@ -1,5 +1,5 @@
 -- One byte a code keeps its laws.
-use Rattle.std.specs.Prelude.{◌≡◌, ℕ, ◌*◌, ◌%◌, List, length, refl}
+use Rattle.std.specs.Prelude.{◌≡◌, ℕ, ◌*◌, List, length, refl}
 use Rattle.std.proofs.Common.{sym, ◌∙◌, mod-eq_of_lt, arith, lit<, lit≤}
 use Rattle.carried.specs.Carries.{Lays, Under, packed, unpacked}
 use Rattle.carried.specs.Layouts.{one_byte}

@@ -1,4 +1,6 @@
 //! How the codes of a field lie in bytes.
+#![tactic(auto)]
+
 ghost use Rattle.std.specs.Prelude.{◌≡◌, length, slice_index};
 ghost use Rattle.carried.specs.Carries.{Carries, Lays, packed, unpacked};
 

@@ -2,6 +2,7 @@
 //!
 //! Whatever is done to a row is done to its payload. A table holds rows in reduced form: each begins with 1 at a
 //! number of its own, where all others are 0. Every call is total, so that whatever holds rows uses the same.
+#![tactic(auto)]
 
 mod row;
 mod table;

@@ -1,5 +1,5 @@
 -- A turn of unloading a table.
-use Rattle.std.proofs.Common.{◌≡◌, ℕ, ◌%◌, List, Option, refl}
+use Rattle.std.proofs.Common.{◌≡◌, ℕ, ◌%◌, List, Option}
 use Rattle.elimination.specs.Tables.{solved, without}
 use Rattle.elimination.specs.declared.table.Table.{Table}
 use Rattle.exports.specs.Decoding.{unload_one, unloading, with_packet}

@@ -1,4 +1,6 @@
 //! Functions for programs in C or Rust to link: what the tests compare and the benchmarks measure.
+#![tactic(auto)]
+
 ghost use Rattle.std.specs.Prelude.{◌≡◌};
 ghost use Rattle.std.specs.Option.{unwrap_or};
 ghost use Rattle.field.specs.Field.{times, inverse};

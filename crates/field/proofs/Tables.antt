@@ -1,10 +1,9 @@
 -- The powers of 2 in the field of bytes: the two tables of the code hold them and their logarithms, and by these the
 -- products and the inverses are the field's.
-use Rattle.std.proofs.Common.{◌≡◌, ℕ, zero, suc, ◌+◌, ◌-◌, ◌*◌, ◌/◌, ◌%◌, ◌<◌, Bool, true, false, ◌||◌, T, eqb, ltb, List, [], ◌∷◌, length, get_or, set, replicate, sym, refl, ap, ◌∙◌, subst, le_of_suc-le-suc, not-suc-le-zero, add-zero, add-suc, mod-lt, suc-add, div-add-mod', zero-add, zero-mul, arith, lit<, eqb→eq, ltb→lt}
+use Rattle.std.proofs.Common.{◌≡◌, ℕ, zero, suc, ◌+◌, ◌-◌, ◌*◌, ◌/◌, ◌%◌, ◌<◌, Bool, true, false, ◌||◌, T, eqb, ltb, List, [], ◌∷◌, length, get_or, set, replicate, sym, refl, ap, ◌∙◌, subst, le_of_suc-le-suc, not-suc-le-zero, add-zero, add-suc, suc-add, div-add-mod', zero-add, arith, lit<, eqb→eq, ltb→lt}
 use Rattle.std.proofs.lemmas.Bool.{ne_eqb}
 use Rattle.field.specs.OfBytes.{product, powers, squares}
 use Rattle.field.specs.Linear.{linear_zero}
-use Rattle.field.specs.Codes.{OnCodes}
 use Rattle.field.specs.Upto.{both, both_left, both_right}
 use Rattle.field.specs.BytesLaws.{bytes_laws, product_left, product_right, product_comm, product-one, product_assoc, product-below}
 

@@ -1,5 +1,5 @@
 -- The field of bits keeps the laws: each is a test at the two codes, or at pairs or triples of them.
-use Rattle.std.specs.Prelude.{◌≡◌, ℕ, ◌<◌, ◌≤◌, T, bit_and, bit_xor, nat_eq, nat_lt, refl}
+use Rattle.std.specs.Prelude.{◌≡◌, bit_and, bit_xor, nat_eq, nat_lt}
 use Rattle.std.proofs.Common.{arith, eqb→eq, ltb→lt, lit≤}
 use Rattle.std.proofs.lemmas.Nat.{xor_comm, and_comm}
 use Rattle.std.specs.Int.Bits.{xor_assoc, xor_zero_r}

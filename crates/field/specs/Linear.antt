@@ -1,8 +1,8 @@
 -- Functions that keep exclusive or: two that agree at the powers of 2 agree everywhere below.
-use Rattle.std.specs.Prelude.{◌≡◌, ℕ, zero, suc, ◌+◌, ◌*◌, ◌/◌, ◌%◌, ◌^◌, ◌<◌, refl}
+use Rattle.std.specs.Prelude.{◌≡◌, ℕ, zero, suc, ◌*◌, ◌/◌, ◌%◌, ◌^◌, ◌<◌}
 use Rattle.std.proofs.Common.{sym, ap, ◌∙◌, zero-mul, one-mul, add-zero, mod-lt, div-add-mod', not-suc-le-zero, le_of_suc-le-suc, arith, lit<, pow_pos}
 use Rattle.std.specs.Int.Bits.{bit_xor, xor_assoc, xor_self, xor_zero_r, xor_shifted}
-use Rattle.std.proofs.lemmas.Nat.{div_below, xor_comm, xor_block, xor_mod, xor_shr}
+use Rattle.std.proofs.lemmas.Nat.{div_below, xor_comm, xor_block, xor_mod}
 
 abbrev pub Linear : (ℕ → ℕ) → Type 0
 Linear f = (x y : ℕ) → f (bit_xor x y) ≡ bit_xor (f x) (f y)

@@ -3,6 +3,8 @@
 //! A code is a 16-bit number below the field's order q. What a field computes is said by its ghost meaning, a
 //! record of plain functions on numbers, and every field shows the laws that elimination rests on. All above this
 //! crate is written and proved once, for every field.
+#![tactic(auto)]
+
 ghost use Rattle.std.specs.Prelude.{◌≡◌};
 ghost use Rattle.field.specs.Field.{Means, Laws, plus, minus, times, inverse};
 

@@ -3,6 +3,8 @@
 //! The packets hold the file's length in four bytes, the file, and zero bytes to the end. A record takes them in
 //! order and writes each byte of the file at its place in a buffer. It is finished once all bytes are there, and only
 //! then shows the file: `Filling` has no `show`, and `Whole` no `add`.
+#![tactic(auto)]
+
 mod filling;
 mod packets;
 mod spelling;

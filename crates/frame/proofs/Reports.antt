@@ -1,5 +1,5 @@
 -- A report that can be read is the frame of its numbers.
-use Rattle.std.proofs.Common.{◌≡◌, ℕ, ◌<◌, List, [], ◌∷◌, ◌++◌, length, get_or, sym, refl, ap, ◌∙◌, lit<}
+use Rattle.std.proofs.Common.{◌≡◌, ℕ, List, [], ◌∷◌, ◌++◌, length, get_or, sym, refl, ap, ◌∙◌, lit<}
 use Rattle.std.proofs.lemmas.Slice.Eq.{text_from_reads}
 use Rattle.carried.specs.Carries.{Under}
 use Rattle.frame.specs.Head.{four_bytes, number_at}

@@ -2,7 +2,6 @@
 use Rattle.std.proofs.Common.{◌≡◌, ℕ, ◌≤◌, List, ◌++◌, length, drop, IfOk, IfErr, Some, None, Ok, Err, Option, Result, sym, refl, ap, subst, arith}
 use Rattle.std.proofs.lemmas.Bool.{cond-true, le-leb}
 use Rattle.refusal.specs.declared.Refusal.{Refusal}
-use Rattle.refusal.specs.declared.Refusal.TheVariants.{ShortBuffer}
 use Rattle.frame.specs.Head.{first, too_short, verdict, written}
 
 pub first-none : (a b : Option Refusal) → first a b ≡ None → (a ≡ None) × (b ≡ None)

@@ -1,5 +1,5 @@
 -- Data frames: what a frame says, the rules of its contents, and the frame that writing gives.
-use Rattle.std.specs.Prelude.{ℕ, ◌+◌, ◌*◌, ◌/◌, Bool, true, false, cond, ◌&&◌, List, [], ◌∷◌, ◌++◌, take, drop, Some, None, Option, Result, nat_eq, nat_le, nat_lt, slice_index}
+use Rattle.std.specs.Prelude.{ℕ, ◌+◌, ◌*◌, ◌/◌, Bool, true, cond, ◌&&◌, List, [], ◌∷◌, ◌++◌, take, drop, Some, None, Option, Result, nat_eq, nat_le, nat_lt, slice_index}
 use Rattle.refusal.specs.declared.Refusal.{Refusal}
 use Rattle.refusal.specs.declared.Refusal.TheVariants.{BadWidth, BadCode, StraySlot}
 use Rattle.field.specs.Field.{Means}

@@ -3,6 +3,8 @@
 //! A frame is one byte of kind, then a body whose length the kind fixes. Whatever the bytes, reading gives their
 //! contents or the first refusal that holds of them; a frame that can be read is exactly what writing its contents
 //! gives.
+#![tactic(auto)]
+
 ghost use Rattle.std.specs.Prelude.{◌≡◌, if◌then◌else◌};
 ghost use Rattle.refusal.specs.declared.Refusal.TheVariants.{WrongKind, WrongLength};
 ghost use Rattle.frame.specs.Head.{begins};

@@ -1,6 +1,8 @@
 //! Prints what the frames of a capture say, a line for each frame.
 //!
 //! Standard input holds the frames end to end, each behind its length in two bytes, the highest first.
+#![tactic(auto)]
+
 use carried::Carried;
 use field::{Bits, Bytes, Residues};
 use frame::{read_data, read_report};

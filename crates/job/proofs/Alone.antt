@@ -1,25 +1,21 @@
 -- A packet that arrives in a frame of its own, in its turn, at a receiver whose table is empty: it is fresh, and is
 -- released at once.
-use Rattle.std.proofs.Common.{◌≡◌, ℕ, zero, suc, ◌+◌, ◌*◌, ◌%◌, ◌<◌, ◌≤◌, max, Bool, true, false, cond, not, ◌||◌, eqb, ltb, List, [], ◌∷◌, ◌++◌, map, length, get_or, drop, set, replicate, Some, None, Ok, Err, Option, sym, refl, ap, ◌∙◌, subst, inl, inr, add-zero, mod-lt, mod-eq_of_lt, arith}
+use Rattle.std.proofs.Common.{◌≡◌, ℕ, zero, suc, ◌+◌, ◌%◌, ◌<◌, Bool, true, false, not, ◌||◌, eqb, List, [], ◌∷◌, map, get_or, set, replicate, Some, None, Option, sym, refl, ap, ◌∙◌, subst, inl, inr, add-zero, arith}
 use lib.ListN.{length-replicate}
 use Rattle.std.proofs.ByRecursion.{All-set, All-from_get_or, All-weaker}
-use Rattle.std.proofs.lemmas.List.{get_or-replicate, get_or_past, get_or-set_same, get_or-set_other, set-set, set-get_or}
-use Rattle.std.proofs.lemmas.Bool.{cases_eq, cases_lt, cond-true, cond-false, eq-eqb, le-ltb, lt-ltb}
+use Rattle.std.proofs.lemmas.List.{get_or-replicate, get_or_past, get_or-set_same, get_or-set_other, set-get_or}
+use Rattle.std.proofs.lemmas.Bool.{cases_eq, cases_lt, cond-true, eq-eqb}
 use Rattle.std.specs.Int.Digits.{AllBelowBase}
 use Rattle.std.specs.List.{AllByRecursion as All}
 use Rattle.field.specs.Field.{Means, Laws, times, inverse}
-use Rattle.carried.specs.Carries.{Carries}
-use Rattle.frame.specs.DataFrame.{reading}
-use Rattle.frame.specs.declared.data.Data.{Data}
 use Rattle.elimination.proofs.Same.{same_row}
 use Rattle.elimination.proofs.Turns.{seek_yes}
 use Rattle.elimination.proofs.Zeros.{inverse_there}
-use Rattle.elimination.specs.Absorption.{Absorption, absorption, absorbed, decided, settled, with_pivot}
-use Rattle.elimination.specs.Loops.{turns, every, seek}
+use Rattle.elimination.specs.Absorption.{absorption, absorbed, decided, settled, with_pivot}
+use Rattle.elimination.specs.Loops.{turns, every}
 use Rattle.elimination.specs.Rows.{times_all, times_row, scaled, nonzero, first_from, zero_beside, unit_at}
 use Rattle.elimination.specs.Tables.{no_rows, row_at, with_row, reduced, reduced_by, cleared_by, clear_at, joined, packet_in, solved}
 use Rattle.elimination.specs.declared.row.Row.{Row}
-use Rattle.elimination.specs.declared.table.Table.{Table}
 use Rattle.elimination.specs.declared.table.Verdict.TheVariants.{Innovative}
 
 -- turns that change nothing

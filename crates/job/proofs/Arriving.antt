@@ -11,14 +11,14 @@ use Rattle.frame.specs.DataFrame.{reading}
 use Rattle.frame.specs.declared.data.Data.{Data}
 use Rattle.elimination.specs.Absorption.{absorbed}
 use Rattle.elimination.specs.Loops.{turns}
-use Rattle.elimination.specs.Tables.{no_rows, row_at, with_row, packet_in, solved}
+use Rattle.elimination.specs.Tables.{no_rows, with_row, packet_in}
 use Rattle.elimination.specs.declared.row.Row.{Row}
 use Rattle.elimination.specs.declared.table.Table.{Table}
-use Rattle.receiver.specs.Alignment.{with_packet, with_slot, aligned}
-use Rattle.receiver.specs.Arrival.{Outcome, arrival, checked, reaching, with_table, fresh, judged, accepted, arrived}
+use Rattle.receiver.specs.Alignment.{with_slot, aligned}
+use Rattle.receiver.specs.Arrival.{Outcome, arrival, checked, fresh, judged, accepted, arrived}
 use Rattle.receiver.specs.Buffers.{over}
 use Rattle.receiver.specs.Reach.{reach}
-use Rattle.receiver.specs.Release.{Release, ready, advanced, release_one, releasing}
+use Rattle.receiver.specs.Release.{ready, advanced, release_one, releasing}
 use Rattle.receiver.specs.declared.state.Answer.{Answer}
 use Rattle.receiver.specs.declared.state.Answer.TheVariants.{Fresh, Repeat}
 use Rattle.receiver.specs.declared.state.State.{State}

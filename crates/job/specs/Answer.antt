@@ -9,7 +9,7 @@ use Rattle.file.specs.Spelling.{spelling_of}
 use Rattle.job.specs.declared.line.FieldKind.{FieldKind}
 use Rattle.job.specs.declared.line.FieldKind.TheVariants.{Bits, Bytes, Residues}
 use Rattle.job.specs.Crossing.{all_fresh}
-use Rattle.job.specs.Line.{Asked, parsed}
+use Rattle.job.specs.Line.{parsed}
 use Rattle.job.specs.Output.{refused_text, whole_text}
 
 -- the order of the field that a job asks for

@@ -1,4 +1,6 @@
 //! A job: its line and file, how the file is carried, and what the program writes.
+#![tactic(auto)]
+
 mod carry;
 mod line;
 mod output;

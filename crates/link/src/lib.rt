@@ -2,6 +2,8 @@
 //!
 //! A link carries frames of at most 400 bytes. It may lose, double, hold or reorder them, but it makes up none: that
 //! is the law that every link shows, and all that the ends rely on.
+#![tactic(auto)]
+
 ghost use Rattle.std.specs.Prelude.{◌≡◌};
 ghost use Rattle.link.specs.Link.{Carries, CarriesLaws, taken};
 

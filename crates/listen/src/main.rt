@@ -3,6 +3,8 @@
 //! Standard input holds a digit that names the field, 1, 2 or 3 as in the kinds, and then the frames end to end, each
 //! behind its length in two bytes, the highest first. Each frame arrives in its turn: a line for the answer, one for
 //! the report, one for the missing packets, and one for each packet that was released.
+#![tactic(auto)]
+
 use carried::Carried;
 use field::{Bits, Bytes, Residues};
 use receiver::{Answer, Receiver};

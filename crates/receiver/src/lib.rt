@@ -1,4 +1,6 @@
 //! The receiver: it takes frames in, in any order, and releases the packets of the stream in theirs.
+#![tactic(auto)]
+
 mod receiver;
 mod state;
 

@@ -2,6 +2,8 @@
 //!
 //! Every call of the transport gives its result or exactly one of these, and makes its checks in the order of their
 //! numbers. docs/PROTOCOL.md says who can cause each.
+#![tactic(auto)]
+
 ghost use Rattle.std.specs.Prelude.{◌≡◌};
 ghost use Rattle.refusal.specs.Numbers.{numbered};
 

@@ -3,6 +3,8 @@
 //! `plain Q N N ..` draws from a new plain source at the order Q and the widths N, one after another; `woven SEED Q N
 //! N ..` from a woven one. `link SCRIPT STEPS` drives a scripted link, and `queue STEPS` a plain one: the step `p` puts
 //! a frame of one byte, which counts the puts, `x` one of 401 bytes, and `t` takes.
+#![tactic(auto)]
+
 use link::{Link, PlainLink, ScriptedLink};
 use source::{Plain, Source, Woven};
 use std::str::SplitWhitespace;

@@ -3,6 +3,8 @@
 //! A sender counts the admitted packets, and hears from reports how many packets the far end has released and which is
 //! the oldest that it has not seen. Its window is the packets from the oldest unseen one on; what lies below is dropped.
 //! A sender is open until it is sealed: a sealed one admits nothing.
+#![tactic(auto)]
+
 ghost use Rattle.std.specs.Prelude.{◌≡◌};
 ghost use Rattle.sender.specs.declared.window.Window.{Window};
 ghost use Rattle.sender.specs.Packets.{Keeps, TellsPackets};

@@ -3,6 +3,8 @@
 //! A source fills the slots of one frame with each draw. What it draws is a function of its state, the field's order
 //! q and the window's width n, and every source shows that n draws in a row at width n are independent rows, so that
 //! n frames in a row carry the whole window.
+#![tactic(auto)]
+
 ghost use Rattle.std.specs.Prelude.{◌≡◌, true, false, length, MatchResult};
 ghost use Rattle.refusal.specs.declared.Refusal.TheVariants.{BadDraw};
 ghost use Rattle.source.specs.Source.{Draws, DrawsLaws, allowed, drawn};

@@ -1,5 +1,5 @@
 -- What the frames that wait on the links say, and what is borne out of the numbers heard.
-use Rattle.std.proofs.Common.{◌≡◌, ℕ, ◌+◌, ◌<◌, ◌≤◌, max, ◌&&◌, leb, ◌⊎◌, List, length, Ok, Result, sym, subst, ⊎_elim, arith}
+use Rattle.std.proofs.Common.{◌≡◌, ℕ, ◌+◌, ◌<◌, ◌≤◌, max, ◌&&◌, leb, List, length, Ok, Result, sym, subst, ⊎_elim, arith}
 use mathlib.Core.List.{Memᴰ}
 use Rattle.std.proofs.lemmas.Bool.{cases_lt, cond_both}
 use Rattle.refusal.specs.declared.Refusal.{Refusal}

@@ -1,6 +1,6 @@
 -- What a transfer promises after every log, by the packets that were admitted, the frames that were sent and taken, and the
 -- packets that were released.
-use Rattle.std.specs.Prelude.{◌≡◌, ℕ, ◌+◌, ◌<◌, ◌≤◌, ◌↔◌, List, [], ◌++◌, length, get_or}
+use Rattle.std.specs.Prelude.{◌≡◌, ℕ, ◌+◌, ◌<◌, ◌≤◌, ◌↔◌, List, [], ◌++◌, length}
 use mathlib.Core.List.{Memᴰ}
 use Rattle.field.specs.Field.{Means}
 use Rattle.carried.specs.Carries.{Carries}

@@ -3,6 +3,8 @@
 //! Data frames go forward from the sender to the receiver, and reports come back. Of the links no more is known than that
 //! they make up no frame. `specs/Log.antt` and `specs/Promise.antt` say what a transfer promises over every log of calls;
 //! `starts` and `goes_on` tie a transfer to its log, and `stands` has the promise.
+#![tactic(auto)]
+
 ghost use Rattle.std.specs.Prelude.{◌≡◌, ◌<◌, ◌≤◌, [], length, take, Some, None, Err, MatchOption, OnErr};
 ghost use Rattle.refusal.specs.declared.Refusal.TheVariants.{ShortBuffer};
 ghost use Rattle.frame.specs.ReportFrame.{report_of};

@@ -1,4 +1,4 @@
-use Rattle.std.proofs.Common.{◌≡◌, ℕ, ◌+◌, take, Ok, ap, ◌∙◌, arith, lit<}
+use Rattle.std.proofs.Common.{◌≡◌, ℕ, ◌+◌, take, Ok, ap, ◌∙◌, lit<}
 use native.Mathlib.Nat.{sub-zero}
 use Rattle.frame.specs.DataFrame.{reading}
 use Rattle.job.specs.declared.tally.Tally.{Tally}

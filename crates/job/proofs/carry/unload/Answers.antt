@@ -1,4 +1,4 @@
-use Rattle.std.proofs.Common.{◌≡◌, ℕ, ◌+◌, ◌-◌, ◌*◌, ◌≤◌, List, length, take, drop, ap, ◌∙◌, subst, add_assoc, arith}
+use Rattle.std.proofs.Common.{◌≡◌, ℕ, ◌+◌, ◌-◌, ◌*◌, ◌≤◌, length, take, drop, ap, ◌∙◌, subst, add_assoc, arith}
 use Rattle.file.specs.Filled.{Filled}
 use Rattle.file.specs.Spelling.{spelling_of}
 use Rattle.job.proofs.Crossing.{not_both}

@@ -1,4 +1,4 @@
-use Rattle.std.proofs.Common.{◌≡◌, ℕ, ◌%◌, ◌<◌, eqb, Some, None, sym, ap, ◌∙◌, mod-lt, arith, lit<}
+use Rattle.std.proofs.Common.{◌%◌, ◌<◌, eqb, Some, None, sym, ap, ◌∙◌, mod-lt, arith, lit<}
 use Rattle.std.proofs.lemmas.Bool.{cond-false, ne_eqb}
 use Rattle.field.specs.OfBytes.{squares}
 use Rattle.field.proofs.Tables.{inverse_by_logs}

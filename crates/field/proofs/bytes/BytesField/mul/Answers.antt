@@ -1,4 +1,4 @@
-use Rattle.std.proofs.Common.{ℕ, ◌%◌, sym, ap, ◌∙◌, inl, inr, arith}
+use Rattle.std.proofs.Common.{ℕ, ◌%◌, sym, ap, ◌∙◌, inl, inr}
 use Rattle.field.specs.OfBytes.{product}
 use Rattle.field.proofs.Tables.{by_logs, product_zero_left, product_zero_right}
 use Rattle.field.proofs.bytes.BytesField.mul.Goals as goal
