@@ -17,7 +17,7 @@ use Rattle.file.proofs.Writes.{written, left}
 
 module _ (s : Spelling) (sk : Known s) (file : List ℕ) (k taken size : ℕ) (buffer : List ℕ) (filled : Filled s file k taken size buffer) where
   -- once all packets were taken, all bytes are there
-  done : packets s (length file) ≤ k → (complete s taken size ≡ true) × (size ≡ length file)
+  pub done : packets s (length file) ≤ k → (complete s taken size ≡ true) × (size ≡ length file)
   unfolding complete
   done h =
       let p = packets_pos s sk (length file) in
@@ -26,7 +26,7 @@ module _ (s : Spelling) (sk : Known s) (file : List ℕ) (k taken size : ℕ) (b
       (le-leb (4 + size) (s.room * taken) (omega (arith, packets-hold s sk (length file) taken t)), n)
 
   -- before that, some are lacking
-  lacking : k < packets s (length file) → complete s taken size ≡ false
+  pub lacking : k < packets s (length file) → complete s taken size ≡ false
   unfolding complete
   lacking h =
       let t : taken ≡ k = omega (arith, filled.counted) in
@@ -67,7 +67,7 @@ module _ (s : Spelling) (sk : Known s) (file : List ℕ) (k taken size : ℕ) (b
       ∙ filled.stands i (omega arith) (omega (arith, packets-hold s sk (length file) k h)))
 
 module _ (s : Spelling) (sk : Known s) (file : List ℕ) (f : File file) (k : ℕ) (buffer : List ℕ) where
-  room-more : s.room * (k + 1) ≡ s.room * k + s.room
+  pub room-more : s.room * (k + 1) ≡ s.room * k + s.room
   room-more = mul-add s.room k 1 ∙ ap (λ (r : ℕ). s.room * k + r) (mul-one s.room)
 
   -- packet k brings the bytes that it holds to their places, and leaves those before
@@ -92,19 +92,25 @@ module _ (s : Spelling) (sk : Known s) (file : List ℕ) (f : File file) (k : �
             ∙ ap (λ (i : ℕ). get_or file i 0) back
       ]
 
+-- the length that a record knows once packet k was taken is the file's
+pub knows : (s : Spelling) → Known s → (packet : List ℕ) (taken size : ℕ) (buffer file : List ℕ) (k : ℕ) → File file → Filled s file k taken size buffer
+    → packet ≡ packet_of s file k → k < packets s (length file) → size_with_packet s taken size packet ≡ length file
+knows s sk packet taken size buffer file k f filled is l =
+    let t : taken ≡ k = omega (arith, filled.counted) in
+    elim (cases_eq taken 0) [
+      | inl z ↦
+          let zero : k ≡ 0 = omega arith in
+          size-first s taken size packet z ∙ ap (length_in s) (is ∙ ap (packet_of s file) zero) ∙ packet-first s sk file f
+      | inr ne ↦ size_later s taken size packet ne ∙ filled.known (omega arith)
+    ]
+
 -- packet k of a file is taken by a record that the packets before it filled
 takes : (s : Spelling) → Known s → (packet : List ℕ) (taken size : ℕ) (buffer : List ℕ) → Fills s packet taken size buffer (taking s taken size packet buffer)
 takes s sk packet taken size buffer file k f enough filled is =
     elim (cases_lt k (packets s (length file))) [
       | inl l ↦
           let t : taken ≡ k = omega (arith, filled.counted) in
-          let n : size_with_packet s taken size packet ≡ length file =
-          elim (cases_eq taken 0) [
-            | inl z ↦
-                let zero : k ≡ 0 = omega arith in
-                size-first s taken size packet z ∙ ap (length_in s) (is ∙ ap (packet_of s file) zero) ∙ packet-first s sk file f
-            | inr ne ↦ size_later s taken size packet ne ∙ filled.known (omega arith)
-          ] in
+          let n = knows s sk packet taken size buffer file k f filled is l in
           subst (Took s file (k + 1)) (sym (takes_one s taken size packet buffer (lacking s sk file k taken size buffer filled l) (length file) n f.short)) (
             refl,
             record {
@@ -128,12 +134,18 @@ takes s sk packet taken size buffer file k f enough filled is =
           )
     ]
 
+-- what a record does with a packet of a file
+pub adds_packet : (q : ℕ) → 2 ≤ q → (packet : List ℕ) (taken size : ℕ) (buffer file : List ℕ) (k : ℕ) → 16000 ≤ length buffer → packet ≡ packet_of (spelling_of q) file k
+    → adding q taken size packet buffer ≡ taking (spelling_of q) taken size packet buffer
+adds_packet q two packet taken size buffer file k enough is =
+    let s = spelling_of q in
+    adds_bytes q taken size packet buffer enough
+    (ap length is ∙ packet-length s file k)
+    (ap (below q) is ∙ under_below q _ (packet-codes q two file k))
+    (ap (below s.base) is ∙ under_below s.base _ (packet-digits s (known q) file k))
+
 pub fills : (q : ℕ) → 2 ≤ q → (packet : List ℕ) (taken size : ℕ) (buffer : List ℕ) (after : Outcome) → after ≡ adding q taken size packet buffer → Fills (spelling_of q) packet taken size buffer after
 fills q two packet taken size buffer after e file k f enough filled is =
     let s = spelling_of q in
-    subst (Took s file (k + 1))
-    (sym (e ∙ adds_bytes q taken size packet buffer enough
-    (ap length is ∙ packet-length s file k)
-    (ap (below q) is ∙ under_below q _ (packet-codes q two file k))
-    (ap (below s.base) is ∙ under_below s.base _ (packet-digits s (known q) file k))))
+    subst (Took s file (k + 1)) (sym (e ∙ adds_packet q two packet taken size buffer file k enough is))
     (takes s (known q) packet taken size buffer file k f enough filled is)

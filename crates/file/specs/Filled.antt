@@ -24,3 +24,23 @@ Took s file k after = (after.0 ≡ Ok tt) × Filled s file k after.1 after.2 aft
 abbrev pub Fills : Spelling → List ℕ → ℕ → ℕ → List ℕ → Outcome → Type 0
 Fills s packet taken size buffer after =
     (file : List ℕ) (k : ℕ) → File file → 16000 ≤ length buffer → Filled s file k taken size buffer → packet ≡ packet_of s file k → Took s file (k + 1) after
+
+-- but for the bytes of the file that its first k packets hold, the buffer is as before
+pub record Beside (s : Spelling) (file : List ℕ) (k : ℕ) (before buffer : List ℕ) : Type 0 where
+  pub left : (place : ℕ) → (place < length file → place + 4 < s.room * k → ⊥) → slice_index buffer place ≡ slice_index before place
+  pub long : length buffer ≡ length before
+
+-- the first k packets of the file were taken into a buffer, and nothing else was written there
+pub record FilledOver (s : Spelling) (file : List ℕ) (k taken size : ℕ) (before buffer : List ℕ) : Type 0 where
+  pub filled : Filled s file k taken size buffer
+  pub beside : Beside s file k before buffer
+
+-- the answer is Ok, and the first k packets of the file were taken, with nothing else written
+abbrev pub TookOver : Spelling → List ℕ → ℕ → List ℕ → Outcome → Type 0
+TookOver s file k before after = (after.0 ≡ Ok tt) × FilledOver s file k after.1 after.2 before after.3
+
+-- after the first k packets of any file, its packet k is taken, and nothing but its bytes is written
+abbrev pub FillsOver : Spelling → List ℕ → ℕ → ℕ → List ℕ → Outcome → Type 0
+FillsOver s packet taken size buffer after =
+    (file before : List ℕ) (k : ℕ) → File file → 16000 ≤ length buffer → FilledOver s file k taken size before buffer → packet ≡ packet_of s file k
+    → TookOver s file (k + 1) before after

@@ -2,7 +2,7 @@
 ghost use Rattle.std.specs.Prelude.{◌≡◌, ℕ, ◌+◌, ◌*◌, ◌<◌, ◌≤◌, true, false, List, length, Ok, Err};
 ghost use Rattle.refusal.specs.declared.Refusal.TheVariants.{Incomplete, ShortBuffer};
 ghost use Rattle.std.specs.Int.Digits.{AllBelowBase};
-ghost use Rattle.file.specs.Filled.{Filled, Fills};
+ghost use Rattle.file.specs.Filled.{Filled, Fills, FillsOver};
 ghost use Rattle.file.specs.Filling.{adding, below, buffer_with, complete, size_with_packet, taking};
 ghost use Rattle.file.specs.Packets.{packets};
 ghost use Rattle.file.specs.Spelling.{spelling_of, Known};
@@ -42,6 +42,7 @@ impl<F: Field> Filling<F> {
     pub fn add(&mut self, packet: &[u16], buffer: &mut [u8]) -> Result<(), Refusal>
         ensures exact { (result, self.new.taken, self.new.size, buffer.new) ≡ adding F.means.q self.old.taken self.old.size packet.now buffer.old }
         ensures fills { Fills (spelling_of F.means.q) packet.now self.old.taken self.old.size buffer.old (result, self.new.taken, self.new.size, buffer.new) }
+        ensures fills_over { FillsOver (spelling_of F.means.q) packet.now self.old.taken self.old.size buffer.old (result, self.new.taken, self.new.size, buffer.new) }
     {
         if buffer.len() < FILE_MOST {
             return Err(Refusal::ShortBuffer);

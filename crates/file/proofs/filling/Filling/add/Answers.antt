@@ -3,6 +3,7 @@ use Rattle.std.proofs.lemmas.Bool.{and_left, and_right, ne_eqb}
 use Rattle.file.specs.declared.spelling.Spelling.{Spelling}
 use Rattle.file.specs.Filling.{below}
 use Rattle.file.specs.Spelling.{spelling_of}
+use Rattle.file.proofs.Beside.{fills_over}
 use Rattle.file.proofs.Fills.{fills}
 use Rattle.file.proofs.Steps.{under, adds_short, adds_bad, adds_no_byte, adds_bytes}
 use Rattle.file.proofs.filling.Filling.add.Goals as goal
@@ -22,7 +23,7 @@ returns-then-buffer-lt-FILE_MOST g c =
     let packet = c.args.packet.now in
     let buffer = c.args.buffer.now in
     let e = sym (adds_short q self.taken self.size packet buffer (omega arith)) in
-    record { exact = e; fills = fills q g.met.F.Field.laws.least packet self.taken self.size buffer _ e }
+    record { exact = e; fills = fills q g.met.F.Field.laws.least packet self.taken self.size buffer _ e; fills_over = fills_over q g.met.F.Field.laws.least packet self.taken self.size buffer _ e }
 
 pub returns-then-packet-ne-SYMBOLS : goal.returns-then-packet-ne-SYMBOLS
 returns-then-packet-ne-SYMBOLS g c =
@@ -36,7 +37,7 @@ returns-then-packet-ne-SYMBOLS g c =
       | then-packet-ne-SYMBOLS-via-else-packet-ne-SYMBOLS+then-not-all_below w ↦ and_right _ _ (at_order _ q packet false w.order.ensures w.if-not-all_below.ensures)
     ] in
     let e = sym (adds_bad q self.taken self.size packet buffer (omega arith) no) in
-    record { exact = e; fills = fills q g.met.F.Field.laws.least packet self.taken self.size buffer _ e }
+    record { exact = e; fills = fills q g.met.F.Field.laws.least packet self.taken self.size buffer _ e; fills_over = fills_over q g.met.F.Field.laws.least packet self.taken self.size buffer _ e }
 
 pub returns-then-not-all_below-2 : goal.returns-then-not-all_below-2
 returns-then-not-all_below-2 g c =
@@ -47,7 +48,7 @@ returns-then-not-all_below-2 g c =
     let codes = at_order _ q packet true c.order.ensures c.if-not-all_below.ensures in
     let bytes = at_base _ (spelling_of q) packet false c.of.ensures.exact c.if-not-all_below-2.ensures in
     let e = sym (adds_no_byte q self.taken self.size packet buffer (omega arith) (omega arith) codes bytes) in
-    record { exact = e; fills = fills q g.met.F.Field.laws.least packet self.taken self.size buffer _ e }
+    record { exact = e; fills = fills q g.met.F.Field.laws.least packet self.taken self.size buffer _ e; fills_over = fills_over q g.met.F.Field.laws.least packet self.taken self.size buffer _ e }
 
 pub take_packet-requires : goal.take_packet-requires
 take_packet-requires g c =
@@ -65,4 +66,4 @@ returns g c =
     let codes = at_order _ q packet true c.order.ensures c.if-not-all_below.ensures in
     let bytes = at_base _ (spelling_of q) packet true c.of.ensures.exact c.if-not-all_below-2.ensures in
     let e = c.take_packet.ensures ∙ sym (adds_bytes q self.taken self.size packet buffer (omega arith) (omega arith) codes bytes) in
-    record { exact = e; fills = fills q g.met.F.Field.laws.least packet self.taken self.size buffer _ e }
+    record { exact = e; fills = fills q g.met.F.Field.laws.least packet self.taken self.size buffer _ e; fills_over = fills_over q g.met.F.Field.laws.least packet self.taken self.size buffer _ e }
