@@ -1,4 +1,6 @@
 //! The program: reads a job from standard input and writes its answer to standard output.
+#![tactic(auto)]
+
 use std::io;
 use std::io::{Read, Write};
 

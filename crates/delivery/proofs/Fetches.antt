@@ -2,7 +2,7 @@
 use Rattle.std.proofs.Common.{◌≡◌, ℕ, ◌+◌, ◌*◌, ◌<◌, ◌≤◌, Bool, List, [], ◌∷◌, ◌++◌, length, get_or, take, drop, Some, None, Ok, Err, Option, Result, sym, refl, ap, ◌∙◌, subst, add-zero, arith, lit<, length-append}
 use Rattle.std.proofs.lemmas.List.{get_or_append_left, get_or-append-add}
 use Rattle.refusal.specs.declared.Refusal.{Refusal}
-use Rattle.file.specs.Filled.{Filled}
+use Rattle.file.specs.Filled.{FilledOver}
 use Rattle.file.specs.Packets.{packet_of}
 use Rattle.file.specs.Spelling.{spelling_of}
 use Rattle.file.specs.declared.filling.Filling.{Filling}
@@ -59,7 +59,7 @@ module _
     new_calls r = arriving (fetch_takes 32 p σ v.numbers) v.numbers r after (arrivals c.log)
 
     keeps : (r : Result (Option Answer) Refusal) → fetched r τ after ≡ fetches 32 p σ v.numbers → (n : ℕ) (x : Tally) (filling : Filling C) (b : List ℕ)
-        → x ≡ counted c.log (new_calls r) → length (released (new_calls r)) ≡ n → Filled (spelling_of p.means.q) file n filling.taken filling.size before b
+        → x ≡ counted c.log (new_calls r) → length (released (new_calls r)) ≡ n → FilledOver (spelling_of p.means.q) file n filling.taken filling.size before b
         → Follows p file before shut t (fetch_one 32 p c) τ (kept v n x after filling) b
     keeps r e n x filling b same-counts same-released filled =
         subst (λ (d : Course S ScriptedLink PlainLink). Follows p file before shut t d τ (kept v n x after filling) b) (sym (fetched-course p c σ τ h.state v.numbers h.numbers r after e))
@@ -106,7 +106,7 @@ module _
           ap (λ (l : List Arrival). length (released l)) is.1 ∙ length-append (released (arrivals c.log)) (packets n after)
           ∙ ap (λ (k : ℕ). length (released (arrivals c.log)) + k) (packets-count n after) ∙ ap (λ (k : ℕ). k + n) h.releases
 
-      pub fetched-fresh : (filling : Filling C) (b : List ℕ) → Filled (spelling_of p.means.q) file (v.released + n) filling.taken filling.size before b
+      pub fetched-fresh : (filling : Filling C) (b : List ℕ) → FilledOver (spelling_of p.means.q) file (v.released + n) filling.taken filling.size before b
           → Follows p file before shut t (fetch_one 32 p c) τ (kept v (v.released + n) (one_fresh v.tally) after filling) b
       fetched-fresh filling b filled =
           let is = logged p σ τ v.numbers after room (Ok (Some (Fresh n))) e (arrivals c.log) in

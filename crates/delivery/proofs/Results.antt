@@ -10,9 +10,9 @@ use Rattle.field.specs.Field.{Means}
 use Rattle.carried.specs.Carries.{Carries}
 use Rattle.source.specs.Source.{Draws}
 use Rattle.file.proofs.Counts.{packets-hold}
-use Rattle.file.proofs.Fills.{begins-with}
+use Rattle.file.proofs.Beside.{begins_with}
 use Rattle.file.proofs.Spellings.{known}
-use Rattle.file.specs.Filled.{File, Filled}
+use Rattle.file.specs.Filled.{File, FilledOver}
 use Rattle.file.specs.Packets.{packets}
 use Rattle.file.specs.Spelling.{spelling_of}
 use Rattle.transfer.specs.Parts.{Parts, PartsLaws, State, started}
@@ -28,7 +28,7 @@ use Rattle.delivery.proofs.Rounding.{done-is, outcome-is, heard-released, used_u
 pub starts : {S C : Type 0} (m : Means) (carries : Carries) (draws : Draws S) (file : List ℕ) → File file → (source : S) (script : List ℕ) (σ : State S ScriptedLink PlainLink)
     → σ ≡ started 32 source (new_link 16 400 64 script) (empty 16 400) → (v : Progress C) (buffer : List ℕ)
     → v.heard ≡ 0 → v.released ≡ 0 → v.tally ≡ record { sent = 0; fresh = 0; repeat = 0; refused = 0 } → v.numbers ≡ replicate 4096 0
-    → Filled (spelling_of m.q) file 0 v.filling.taken v.filling.size buffer buffer
+    → FilledOver (spelling_of m.q) file 0 v.filling.taken v.filling.size buffer buffer
     → Follows (linked m carries draws) file buffer false 0 (begun (linked m carries draws) source script) σ v buffer
 unfolding begun
 starts m carries draws file is_file source script σ is v buffer heard released tally numbers filled = record {
@@ -48,7 +48,7 @@ starts m carries draws file is_file source script σ is v buffer heard released 
   heard = sym heard;
   tally = tally;
   releases = sym released;
-  filled = subst (λ (k : ℕ). Filled (spelling_of m.q) file k v.filling.taken v.filling.size buffer buffer) (sym released) filled;
+  filled = subst (λ (k : ℕ). FilledOver (spelling_of m.q) file k v.filling.taken v.filling.size buffer buffer) (sym released) filled;
 }
 
 module _
@@ -62,8 +62,8 @@ module _
       -- the bytes of the file that the released packets hold are there, and all else is as before
       buffer-is : 16000 ≤ length buffer → (n : ℕ) → n ≡ held_bytes p.means.q file v.released → buffer ≡ written n file before
       buffer-is room n is =
-          begins-with (spelling_of p.means.q) (known p.means.q) file v.released v.filling.taken v.filling.size before buffer h.filled n is
-          (omega (arith, h.filled.long, h.runs.is_file.short))
+          begins_with (spelling_of p.means.q) (known p.means.q) file v.released v.filling.taken v.filling.size before buffer h.filled n is
+          (omega (arith, h.filled.beside.long, h.runs.is_file.short))
 
       -- not done: the rounds are used up
       pub spent_carries : 16000 ≤ length buffer → (shut && eqb v.heard t) ≡ false → CarriesOut p file source script before (Ok (record { tally = v.tally; ending = Spent v.released })) buffer

@@ -4,7 +4,7 @@ use Rattle.std.proofs.lemmas.Bool.{cond-true, cond-false, eq-eqb, ne_eqb, both_w
 use Rattle.link.specs.declared.plain.PlainLink.{PlainLink}
 use Rattle.link.specs.declared.scripted.ScriptedLink.{ScriptedLink}
 use Rattle.transfer.proofs.Standing.{stands}
-use Rattle.transfer.specs.Log.{admitted, heard}
+use Rattle.transfer.specs.Log.{admitted}
 use Rattle.transfer.specs.Parts.{Parts, PartsLaws, State}
 use Rattle.delivery.specs.declared.outcome.Ending.TheVariants.{Whole, Spent}
 use Rattle.delivery.specs.declared.progress.Progress.{Progress}

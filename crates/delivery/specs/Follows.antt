@@ -3,7 +3,7 @@ use Rattle.std.specs.Prelude.{◌≡◌, ℕ, ◌+◌, ◌*◌, ◌<◌, ◌≤�
 use Rattle.refusal.specs.declared.Refusal.{Refusal}
 use Rattle.link.specs.declared.plain.PlainLink.{PlainLink}
 use Rattle.link.specs.declared.scripted.ScriptedLink.{ScriptedLink}
-use Rattle.file.specs.Filled.{File, Filled}
+use Rattle.file.specs.Filled.{File, FilledOver}
 use Rattle.file.specs.Packets.{packets, packet_of}
 use Rattle.file.specs.Spelling.{spelling_of}
 use Rattle.receiver.specs.Log.{released}
@@ -41,7 +41,7 @@ pub record Follows {S C : Type 0} (p : Parts S ScriptedLink PlainLink) (file bef
   pub heard : (heard c.log).0 ≡ v.heard
   pub tally : v.tally ≡ tally_of c.log
   pub releases : length (released (arrivals c.log)) ≡ v.released
-  pub filled : Filled (spelling_of p.means.q) file v.released v.filling.taken v.filling.size before buffer
+  pub filled : FilledOver (spelling_of p.means.q) file v.released v.filling.taken v.filling.size before buffer
 
 -- whatever course has led here, of any file, the next step of it leads there
 unfoldable pub Leads : {S C : Type 0} → Parts S ScriptedLink PlainLink → (Course S ScriptedLink PlainLink → Course S ScriptedLink PlainLink)

@@ -1,4 +1,6 @@
 //! A job: its line and file, the rounds that carry the file, and what the program writes.
+#![tactic(auto)]
+
 mod exchange;
 mod line;
 mod outcome;

@@ -1,6 +1,6 @@
 //! What the program keeps of a transfer's answers.
 ghost use Rattle.std.specs.Prelude.{◌≡◌, ℕ, ◌≤◌, List, length, replicate, Ok};
-ghost use Rattle.file.specs.Filled.{Filled};
+ghost use Rattle.file.specs.Filled.{FilledOver};
 ghost use Rattle.file.specs.Packets.{packets};
 ghost use Rattle.file.specs.Spelling.{spelling_of};
 ghost use Rattle.delivery.specs.Phases.{outcome_from};
@@ -26,7 +26,7 @@ impl<C: Field> Progress<C> {
     pub(crate) fn new() -> Progress<C>
         ensures counts { (result.heard ≡ 0) × (result.released ≡ 0) × (result.tally ≡ record { sent = 0; fresh = 0; repeat = 0; refused = 0 }) }
         ensures numbers { result.numbers ≡ replicate 4096 0 }
-        ensures filling { (file buffer : List ℕ) → Filled (spelling_of means.q) file 0 result.filling.taken result.filling.size buffer buffer }
+        ensures filling { (file buffer : List ℕ) → FilledOver (spelling_of C.Field.means.q) file 0 result.filling.taken result.filling.size buffer buffer }
     {
         Progress {
             heard: 0,
@@ -49,7 +49,7 @@ impl<C: Field> Progress<C> {
 
     /// What it comes to: whole, where the sender has heard that all the packets are released.
     pub(crate) fn finish(self, count: u32) -> Result<Outcome, Refusal>
-        ensures { (file before buffer : List ℕ) → Filled (spelling_of means.q) file self.released self.filling.taken self.filling.size before buffer → (self.heard ≡ count → packets (spelling_of means.q) (length file) ≤ self.released) → result ≡ Ok (outcome_from file count self) }
+        ensures { (file before buffer : List ℕ) → FilledOver (spelling_of C.Field.means.q) file self.released self.filling.taken self.filling.size before buffer → (self.heard ≡ count → packets (spelling_of C.Field.means.q) (length file) ≤ self.released) → result ≡ Ok (outcome_from file count self) }
     {
         if self.heard != count {
             return Ok(self.spent());

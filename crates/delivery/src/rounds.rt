@@ -103,8 +103,8 @@ fn sealed_rounds<C: Carried, S: Source>(
     progress: &mut Progress<C>,
     buffer: &mut [u8],
 ) -> Result<(), Refusal>
-    requires { (IfOk < 64000) × ((Small (4 * IfOk) progress.old transfer.old.forward) × (16000 ≤ length buffer.old)) }
-    ensures { (file before : List ℕ) (c : Course S Scripted Queue) → Follows (linked C.Field.means C.Carried.carries S.Source.means) file before true count c (sealed_state transfer.old) progress.old buffer.old → (result ≡ Ok tt) × AllMade (linked C.Field.means C.Carried.carries S.Source.means) file before c (sealed_state transfer.new) progress.new buffer.new true count (closing 32 (linked C.Field.means C.Carried.carries S.Source.means) (file_packet (linked C.Field.means C.Carried.carries S.Source.means) file) count (64000 - IfOk) c) }
+    requires { (made < 64000) × ((Small (4 * made) progress.old transfer.old.forward) × (16000 ≤ length buffer.old)) }
+    ensures { (file before : List ℕ) (c : Course S Scripted Queue) → Follows (linked C.Field.means C.Carried.carries S.Source.means) file before true count c (sealed_state transfer.old) progress.old buffer.old → (result ≡ Ok tt) × AllMade (linked C.Field.means C.Carried.carries S.Source.means) file before c (sealed_state transfer.new) progress.new buffer.new true count (closing 32 (linked C.Field.means C.Carried.carries S.Source.means) (file_packet (linked C.Field.means C.Carried.carries S.Source.means) file) count (64000 - made) c) }
 {
     for round in made..ROUNDS {
         exchange(transfer, progress, buffer)?;

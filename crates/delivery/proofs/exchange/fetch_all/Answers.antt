@@ -83,9 +83,9 @@ unload-requires g c =
     let e = answered p σ τ v.numbers after c.in-Ok.answer c.in-Ok.ensures.exact (Some (Fresh n)) (c.in-Some.is ∙ ap Some c.in-Fresh.is) in
     omega (arith, c.loop-answer.invariant.0, few-fresh p σ τ v.numbers after room (Ok (Some (Fresh n))) e)
 
-pub loop-answer-preserved-in-Continue· : goal.loop-answer-preserved-in-Continue·
+pub loop-answer-preserved-in-Continue-1 : goal.loop-answer-preserved-in-Continue-1
 unfolding Unloads
-loop-answer-preserved-in-Continue· g c =
+loop-answer-preserved-in-Continue-1 g c =
     let p = linked g.C.Field.means g.C.Carried.carries g.S.Source.means in
     let σ = state_of g.T.Sends.window g.T.Sends.source c.loop-answer.transfer in
     let τ = state_of g.T.Sends.window g.T.Sends.source c.fetch.new.self in
@@ -110,8 +110,8 @@ loop-answer-preserved-in-Continue· g c =
           (fetched-fresh p file before shut t on.so_far σ τ v c.loop-answer.buffer on.follows room after n e c.unload.new.filling c.unload.new.buffer unloaded.1),
     )
 
-pub loop-answer-smaller-in-Continue· : goal.loop-answer-smaller-in-Continue·
-loop-answer-smaller-in-Continue· g c =
+pub loop-answer-smaller-in-Continue-1 : goal.loop-answer-smaller-in-Continue-1
+loop-answer-smaller-in-Continue-1 g c =
     let p = linked g.C.Field.means g.C.Carried.carries g.S.Source.means in
     let σ = state_of g.T.Sends.window g.T.Sends.source c.loop-answer.transfer in
     let τ = state_of g.T.Sends.window g.T.Sends.source c.fetch.new.self in
@@ -122,9 +122,9 @@ loop-answer-smaller-in-Continue· g c =
     let e = answered p σ τ v.numbers after c.in-Ok.answer c.in-Ok.ensures.exact (Some (Fresh n)) (c.in-Some.is ∙ ap Some c.in-Fresh.is) in
     omega (arith, fetches_fewer g.C.Field.means g.C.Carried.carries g.S.Source.means σ τ v.numbers after room (Ok (Some (Fresh n))) e refl)
 
-pub returns-in_err-unload : goal.returns-in_err-unload
+pub returns-in_err-unload-in-Fresh : goal.returns-in_err-unload-in-Fresh
 unfolding LeadsOn Unloads
-returns-in_err-unload g c =
+returns-in_err-unload-in-Fresh g c =
     let p = linked g.C.Field.means g.C.Carried.carries g.S.Source.means in
     let σ = state_of g.T.Sends.window g.T.Sends.source c.loop-answer.transfer in
     let τ = state_of g.T.Sends.window g.T.Sends.source c.fetch.new.self in
@@ -140,7 +140,7 @@ returns-in_err-unload g c =
           let on = c.loop-answer.invariant.2 file before shut t d h in
           let begins = fresh-begins p file before shut t on.so_far σ τ v c.loop-answer.buffer on.follows room after n e (laws g) in
           let unloaded = c.unload.ensures file before v.released on.follows.runs.is_file space on.follows.filled begins in
-          absurd (not_both _ _ _ unloaded.0 c.in_err-unload.was);
+          absurd (not_both _ _ _ unloaded.0 c.in_err-unload-in-Fresh.was);
       small = λ k h.
           let was = c.loop-answer.invariant.1 k h in
           let few = few-fresh p σ τ v.numbers after room (Ok (Some (Fresh n))) e in
