@@ -106,6 +106,12 @@ promises_are_met_lem = record {
       (stands 32 (lit≤ tt) refl plain_parts parts_keep (record { turn = start }) (empty 16 400) (empty 16 400)
       one_packet transfer_runs.0 transfer_runs.1).delivery refl refl;
   file_taken = refl;
-  file_filled = (refl, record { counted = refl; known = λ _. refl; stands = λ place h _. both_stand place h; left = rest-left; long = refl });
+  file_filled = (
+    refl,
+    record {
+      filled = record { counted = refl; known = λ _. refl; stands = λ place h _. both_stand place h };
+      beside = record { left = rest-left; long = refl };
+    },
+  );
   file_whole = refl;
 }

@@ -132,7 +132,7 @@ promises_refuse_wrong_answers_lem = record {
   invented = λ f laws. Memᴰ.not-nil (laws.takes 0 f refl);
   replaced = λ laws. replaced (laws.puts 0 [] (0 ∷ []) (Memᴰ.head refl));
   deliveries = deliveries_refuse;
-  wrong_byte = λ before rest x. let z : ◌≡◌ {A = ℕ} 8 9 = x.stands 1 (lit≤ tt) (lit≤ tt) in omega arith;
-  wrong_length = λ size before buffer ne x. ne (x.known (lit≤ tt));
-  wrong_rest = λ x. let z : ◌≡◌ {A = ℕ} 6 5 = x.left 2 (λ h _. omega arith) in omega arith;
+  wrong_byte = λ before rest x. let z : ◌≡◌ {A = ℕ} 8 9 = x.filled.stands 1 (lit≤ tt) (lit≤ tt) in omega arith;
+  wrong_length = λ size before buffer ne x. ne (x.filled.known (lit≤ tt));
+  wrong_rest = λ x. let z : ◌≡◌ {A = ℕ} 6 5 = x.beside.left 2 (λ h _. omega arith) in omega arith;
 }

@@ -1,5 +1,5 @@
 -- Nine examples, worked out.
-use Rattle.std.specs.Prelude.{◌≡◌, ℕ, ◌+◌, List, [], ◌∷◌, ◌++◌, map, replicate, Some, Ok, Err}
+use Rattle.std.specs.Prelude.{◌≡◌, [], ◌∷◌, map, replicate, Some, Ok, Err}
 use Rattle.std.specs.List.{range_with_len}
 use Rattle.refusal.specs.declared.Refusal.TheVariants.{Late, Ahead, Contradiction}
 use Rattle.refusal.specs.Numbers.{numbered}
@@ -12,7 +12,7 @@ use Rattle.receiver.specs.declared.state.Answer.TheVariants.{Fresh, Repeat}
 use Rattle.source.specs.OfWoven.{woven}
 use Rattle.source.specs.Source.{run}
 use Rattle.source.specs.Turn.{start}
-use Rattle.examples.specs.Words.{Call, call, ComesOut, slots, packet, bit_frame, byte_frame, residue_frame}
+use Rattle.examples.specs.Words.{call, ComesOut, slots, packet, bit_frame, byte_frame, residue_frame}
 
 pub record WorkedExamples : Type 0 where
   -- bytes: 2 times 128 is 29

@@ -24,7 +24,7 @@ use Rattle.transfer.specs.Log.{Event, admit, seal, send, fetch, hear, arrivals, 
 use Rattle.transfer.specs.Parts.{Parts, PartsLaws, parts, State as Transfer-state}
 use Rattle.transfer.specs.Promise.{WindowTaken, Delivery}
 use Rattle.transfer.specs.Run.{Run as Transfer-run}
-use Rattle.file.specs.Filled.{Took}
+use Rattle.file.specs.Filled.{TookOver}
 use Rattle.file.specs.Filling.{Outcome, complete, taking}
 use Rattle.file.specs.Packets.{packet_of}
 use Rattle.file.specs.Spelling.{in_bytes}
@@ -92,5 +92,5 @@ pub record PromisesMet : Type 0 where
   pub delivers : Delivery bits eight_a_byte 32 one_packet
   -- the packet of a file of two bytes is taken, with which the record has the file, leaves the rest of its buffer, and is whole
   pub file_taken : taking in_bytes 0 0 (packet_of in_bytes (7 ∷ 9 ∷ []) 0) (replicate 8 5) ≡ two_bytes_taken
-  pub file_filled : Took in_bytes (7 ∷ 9 ∷ []) 1 (replicate 8 5) two_bytes_taken
+  pub file_filled : TookOver in_bytes (7 ∷ 9 ∷ []) 1 (replicate 8 5) two_bytes_taken
   pub file_whole : complete in_bytes 1 2 ≡ true

@@ -19,7 +19,7 @@ use Rattle.link.specs.Link.{Carries as Link-means, CarriesLaws as Link-laws}
 use Rattle.link.specs.Queue.{first_of}
 use Rattle.transfer.specs.Log.{admit, send, fetch, hear}
 use Rattle.transfer.specs.Promise.{Delivery}
-use Rattle.file.specs.Filled.{Filled}
+use Rattle.file.specs.Filled.{FilledOver}
 use Rattle.file.specs.Spelling.{in_bytes}
 use Rattle.examples.specs.Words.{slots, packet, bit_frame, buffer}
 
@@ -120,6 +120,6 @@ pub record WrongAnswersRefused : Type 0 where
   pub deliveries : (m : Means) (carries : Carries) (w : ℕ) → DeliveriesRefuse m carries w
   -- a record with another byte than the file has, or of another length, is not filled with the file's packet, nor is one whose
   -- buffer was changed behind the file
-  pub wrong_byte : (before rest : List ℕ) → Filled in_bytes (7 ∷ 9 ∷ []) 1 1 2 before (7 ∷ 8 ∷ rest) → ⊥
-  pub wrong_length : (size : ℕ) (before buffer : List ℕ) → (size ≢ 2) → Filled in_bytes (7 ∷ 9 ∷ []) 1 1 size before buffer → ⊥
-  pub wrong_rest : Filled in_bytes (7 ∷ 9 ∷ []) 1 1 2 (0 ∷ 0 ∷ 5 ∷ []) (7 ∷ 9 ∷ 6 ∷ []) → ⊥
+  pub wrong_byte : (before rest : List ℕ) → FilledOver in_bytes (7 ∷ 9 ∷ []) 1 1 2 before (7 ∷ 8 ∷ rest) → ⊥
+  pub wrong_length : (size : ℕ) (before buffer : List ℕ) → (size ≢ 2) → FilledOver in_bytes (7 ∷ 9 ∷ []) 1 1 size before buffer → ⊥
+  pub wrong_rest : FilledOver in_bytes (7 ∷ 9 ∷ []) 1 1 2 (0 ∷ 0 ∷ 5 ∷ []) (7 ∷ 9 ∷ 6 ∷ []) → ⊥

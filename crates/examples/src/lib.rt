@@ -1,5 +1,7 @@
 //! The definitions that the contracts use, read again by theorems: worked examples, which are tests of the code too, what
 //! meets the promises, and what does not.
+#![tactic(auto)]
+
 ghost use Rattle.examples.specs.Examples.{WorkedExamples};
 ghost use Rattle.examples.specs.Met.{PromisesMet};
 ghost use Rattle.examples.specs.Refused.{WrongAnswersRefused};
