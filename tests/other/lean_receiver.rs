@@ -1,13 +1,16 @@
-//! A receiver that keeps every frame it accepted and solves for the packets it lacks anew, from all of them.
+//! A receiver that puts the packets it released into the frames it accepted, and solves anew for those it lacks.
+//!
+//! It is faster than the one that works everything out from all frames, so it can carry whole files.
 
 use crate::field::Field;
 use crate::frame::{Data, SYMBOLS, WINDOW};
+use crate::receiver::{Answer, Receives};
 use std::collections::BTreeSet;
 
 /// Coefficients of the 32 packets from the oldest unreleased one on, with the payload behind them.
 type Equation = Vec<u32>;
 
-pub struct Receiver {
+pub struct LeanReceiver {
     field: Field,
     /// Each frame once: an equation said twice says no more.
     accepted: BTreeSet<Data>,
@@ -17,19 +20,12 @@ pub struct Receiver {
     solved: Vec<Equation>,
 }
 
-#[derive(Clone, PartialEq, Eq, Debug)]
-pub enum Answer {
-    /// The packets that were released.
-    Fresh(Vec<Vec<u32>>),
-    Repeat,
-}
-
-impl Receiver {
-    pub fn new(field: Field) -> Receiver {
-        Receiver { field, accepted: BTreeSet::new(), released: Vec::new(), solved: Vec::new() }
+impl Receives for LeanReceiver {
+    fn new(field: Field) -> LeanReceiver {
+        LeanReceiver { field, accepted: BTreeSet::new(), released: Vec::new(), solved: Vec::new() }
     }
 
-    pub fn arrive(&mut self, frame: &[u8]) -> Result<Answer, u32> {
+    fn arrive(&mut self, frame: &[u8]) -> Result<Answer, u32> {
         let data = Data::read(self.field, frame)?;
         if data.base as usize + WINDOW < self.released.len() {
             return Err(16);
@@ -54,23 +50,23 @@ impl Receiver {
         Ok(Answer::Fresh(known))
     }
 
-    /// All packets released so far, in order.
-    pub fn released(&self) -> &[Vec<u32>] {
-        &self.released
-    }
-
-    /// The released count and the oldest unseen number.
-    pub fn report(&self) -> (u32, u32) {
+    fn report(&self) -> (u32, u32) {
         let seen = self.seen();
         let oldest = (self.released.len()..).find(|k| !seen.contains(k)).expect("a number");
         (self.released.len() as u32, oldest as u32)
     }
 
-    /// The unseen numbers that some accepted frame reaches.
-    pub fn missing(&self) -> Vec<u32> {
+    fn missing(&self) -> Vec<u32> {
         let seen = self.seen();
         let top = self.accepted.iter().map(Data::end).max().unwrap_or(0);
         (self.released.len()..top).filter(|k| !seen.contains(k)).map(|k| k as u32).collect()
+    }
+}
+
+impl LeanReceiver {
+    /// All packets released so far, in order.
+    pub fn released(&self) -> &[Vec<u32>] {
+        &self.released
     }
 
     /// The seen numbers among those not released.
