@@ -3,8 +3,13 @@
 use crate::job::with_file;
 use crate::random::Random;
 
+/// So many jobs chosen by the generator.
+pub fn chosen(count: usize, random: &mut Random) -> Vec<Vec<u8>> {
+    (0..count).map(|_| job(random)).collect()
+}
+
 /// A job chosen by the generator; about one in four is refused.
-pub fn job(random: &mut Random) -> Vec<u8> {
+fn job(random: &mut Random) -> Vec<u8> {
     match random.below(16) {
         0 => no_line(random),
         1 => bad_line(random),

@@ -195,7 +195,7 @@ fn same_each_time(programs: &Programs, seed: u64) -> Vec<bool> {
     let Programs { haul, inspect, listen, rig, .. } = programs;
     println!("other: seed {seed}");
     let mut random = Random::new(seed);
-    let chosen: Vec<Vec<u8>> = (0..300).map(|_| alone_jobs::job(&mut random)).collect();
+    let chosen = alone_jobs::chosen(300, &mut random);
     vec![
         tell(tables(Field::Bytes, lambjade_bytes_mul, lambjade_bytes_inverse)),
         tell(tables(Field::Residues, lambjade_residues_mul, lambjade_residues_inverse)),
@@ -208,14 +208,14 @@ fn same_each_time(programs: &Programs, seed: u64) -> Vec<bool> {
         tell(sessions::<Receiver>(listen, Field::Bits, &FOUR_BREAKS, &mut random)),
         tell(sessions::<Receiver>(listen, Field::Bytes, &FOUR_BREAKS, &mut random)),
         tell(sessions::<Receiver>(listen, Field::Residues, &FOUR_BREAKS, &mut random)),
-        tell(alone(haul, &alone_jobs::edges(), "packets alone, at the edges")),
-        tell(alone(haul, &chosen, "packets alone, chosen")),
+        tell(alone(haul, &alone_jobs::edges(), "packets alone at the edges")),
+        tell(alone(haul, &chosen, "packets alone chosen")),
     ]
 }
 
 /// What the second seed is for. The order of the draws is part of what it chooses.
 fn others_each_time(programs: &Programs, seed: u64) -> Vec<bool> {
-    let Programs { deliver, inspect, listen, rig, .. } = programs;
+    let Programs { haul, deliver, inspect, listen, rig } = programs;
     println!("other: seed {seed}; tests/compare {seed} repeats what follows");
     let mut random = Random::new(seed);
     vec![
@@ -229,6 +229,7 @@ fn others_each_time(programs: &Programs, seed: u64) -> Vec<bool> {
         tell(sessions::<LeanReceiver>(listen, Field::Residues, &ALL_BREAKS, &mut random)),
         tell(rounds(deliver, &rounds_jobs::edges(), "rounds at the edges")),
         tell(rounds(deliver, &rounds_jobs::chosen(320, &mut random), "rounds chosen")),
+        tell(alone(haul, &alone_jobs::chosen(300, &mut random), "packets alone chosen")),
     ]
 }
 
