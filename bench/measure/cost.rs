@@ -33,7 +33,7 @@ fn series() -> [Series; 2] {
     ]
 }
 
-pub fn measure(haul: &Path, directory: &Path) -> io::Result<()> {
+pub fn measure(deliver: &Path, directory: &Path) -> io::Result<()> {
     let mut table = String::from("by,x,field,milliseconds,frames\n");
     for Series { title, by, points } in series() {
         let mut jobs = Vec::new();
@@ -42,7 +42,7 @@ pub fn measure(haul: &Path, directory: &Path) -> io::Result<()> {
                 jobs.push(job(directory, field, "2", script, *size)?);
             }
         }
-        let times = clock::jobs(&[haul], &jobs, TURNS)?;
+        let times = clock::jobs(&[deliver], &jobs, TURNS)?;
         println!("\n{title}");
         print!("{by:<8}");
         FIELDS.iter().for_each(|(_, name)| print!("{name:>12}{:>8}", "frames"));
@@ -52,7 +52,7 @@ pub fn measure(haul: &Path, directory: &Path) -> io::Result<()> {
             print!("{x:<8}");
             for ((_, name), (job, times)) in FIELDS.iter().zip(&mut measured) {
                 let time = times.beyond[0].max(0.0);
-                let frames = sent(&output(haul, &job.input)?);
+                let frames = sent(&output(deliver, &job.input)?);
                 print!("{time:>12.2}{frames:>8}");
                 let _ = writeln!(table, "{by},{x},{name},{time:.3},{frames}");
             }

@@ -1,4 +1,4 @@
-//! Measures the proved program and its rows beside the same algorithm in Rust, and beside libraries: measure HAUL DIR.
+//! Measures the proved program and its rows beside the same algorithm in Rust, and beside libraries: measure DELIVER DIR.
 //!
 //! The machine may be busy with other work. So the candidates take turns, many short ones, and a figure is the least
 //! of its turns where a call is timed, and the middle one where a process is: a ratio within one run is fair.
@@ -17,18 +17,18 @@ use std::path::Path;
 
 fn main() -> std::io::Result<()> {
     let arguments: Vec<String> = std::env::args().collect();
-    let [_, haul, directory] = &arguments[..] else {
-        eprintln!("usage: measure HAUL DIR");
+    let [_, deliver, directory] = &arguments[..] else {
+        eprintln!("usage: measure DELIVER DIR");
         std::process::exit(2);
     };
     let directory = Path::new(directory);
     let rust = directory.join("peer");
-    let programs = [Path::new(haul), &rust];
+    let programs = [Path::new(deliver), &rust];
     rows::measure();
     if transfers::measure(&programs, directory)? {
-        cost::measure(Path::new(haul), directory)?;
+        cost::measure(Path::new(deliver), directory)?;
     } else {
-        println!("\n{haul} writes something else than the program in Rust, so no transfer was measured");
+        println!("\n{deliver} writes something else than the program in Rust, so no transfer was measured");
     }
     Ok(())
 }

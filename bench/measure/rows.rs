@@ -3,7 +3,7 @@
 use std::hint::black_box;
 
 use super::clock;
-use super::libraries::{self, Library};
+use super::libraries::Library;
 use super::peer::elimination::{Row, decode};
 use super::peer::field::{Bits, Bytes, Field, Residues};
 use super::peer::source::{Source, Woven};
@@ -101,13 +101,13 @@ fn cases() -> [Case; 3] {
     #[allow(unused_mut)]
     let mut residues = case::<Residues>("residues", 123, (lambjade_residues_subtract, lambjade_residues_decode));
     #[cfg(m4ri)]
-    bits.libraries.push(libraries::m4ri(&pair(&bits).0, &pair(&bits).1, &bits.rows));
+    bits.libraries.push(super::libraries::m4ri(&pair(&bits).0, &pair(&bits).1, &bits.rows));
     #[cfg(isal)]
-    bytes.libraries.push(libraries::isal(bytes.factor, &pair(&bytes).0, &pair(&bytes).1));
+    bytes.libraries.push(super::libraries::isal(bytes.factor, &pair(&bytes).0, &pair(&bytes).1));
     #[cfg(gf_complete)]
-    bytes.libraries.push(libraries::gf_complete(bytes.factor, &pair(&bytes).0, &pair(&bytes).1));
+    bytes.libraries.push(super::libraries::gf_complete(bytes.factor, &pair(&bytes).0, &pair(&bytes).1));
     #[cfg(flint)]
-    residues.libraries.push(libraries::flint(123, &pair(&residues).0, &pair(&residues).1, &residues.rows));
+    residues.libraries.push(super::libraries::flint(123, &pair(&residues).0, &pair(&residues).1, &residues.rows));
     [bits, bytes, residues]
 }
 

@@ -4,12 +4,30 @@ use crate::damage;
 use crate::field::Field;
 use crate::frame::{Data, SYMBOLS, WINDOW};
 use crate::random::Random;
-use crate::receiver::{Answer, Receiver};
+use crate::receiver::{Answer, Receives};
 
-/// A capture for the program, and what it has to print.
-pub fn session(field: Field, frames: usize, random: &mut Random) -> (Vec<u8>, String) {
+/// What can break a frame.
+#[derive(Clone, Copy)]
+pub enum Break {
+    Cut,
+    Kind,
+    /// A width of 1, so that slots past it stay.
+    Narrow,
+    /// A width that no frame has.
+    Width,
+    /// A first slot that is no code in residues.
+    Slot,
+    Byte,
+}
+
+pub const FOUR_BREAKS: [Break; 4] = [Break::Cut, Break::Kind, Break::Narrow, Break::Byte];
+
+pub const ALL_BREAKS: [Break; 6] = [Break::Cut, Break::Kind, Break::Narrow, Break::Width, Break::Slot, Break::Byte];
+
+/// A capture for the program, and what it has to print by a receiver of this type.
+pub fn session<R: Receives>(field: Field, frames: usize, breaks: &[Break], random: &mut Random) -> (Vec<u8>, String) {
     let packets: Vec<Vec<u32>> = (0..200).map(|_| codes(field, SYMBOLS, random)).collect();
-    let mut receiver = Receiver::new(field);
+    let mut receiver = R::new(field);
     let mut sent: Vec<Vec<u8>> = Vec::new();
     let mut said = String::new();
     for _ in 0..frames {
@@ -17,7 +35,7 @@ pub fn session(field: Field, frames: usize, random: &mut Random) -> (Vec<u8>, St
         let frame = match random.below(12) {
             0 => random.pick_clone(&sent).unwrap_or_default(),
             1 => false_payload(field, &packets, released, random),
-            2 => broken(field, &packets, released, random),
+            2 => broken(field, &packets, released, breaks, random),
             3 => out_of_reach(field, released, random),
             4 => coded(field, &packets, released.saturating_sub(random.below(40)), random),
             _ => coded(field, &packets, released, random),
@@ -66,18 +84,16 @@ fn false_payload(field: Field, packets: &[Vec<u32>], from: u32, random: &mut Ran
     data.write(field).expect("contents in order")
 }
 
-/// A frame with one byte changed, or cut, or of another kind or width.
-fn broken(field: Field, packets: &[Vec<u32>], from: u32, random: &mut Random) -> Vec<u8> {
+/// A frame that one of these breaks was done to.
+fn broken(field: Field, packets: &[Vec<u32>], from: u32, breaks: &[Break], random: &mut Random) -> Vec<u8> {
     let mut frame = coded(field, packets, from, random);
-    match random.below(6) {
-        0 => frame.truncate(random.below(frame.len() as u32) as usize),
-        1 => frame[0] = random.next() as u8,
-        // slots past this width stay
-        2 => frame[5] = 1,
-        3 => frame[5] = random.pick(&[0, 33, 255]),
-        // in residues the first slot is then no code
-        4 => frame[6] = 2,
-        _ => {
+    match random.pick(breaks) {
+        Break::Cut => frame.truncate(random.below(frame.len() as u32) as usize),
+        Break::Kind => frame[0] = random.next() as u8,
+        Break::Narrow => frame[5] = 1,
+        Break::Width => frame[5] = random.pick(&[0, 33, 255]),
+        Break::Slot => frame[6] = 2,
+        Break::Byte => {
             let part = random.pick(&[7, frame.len() as u32]);
             let at = random.below(part) as usize;
             frame[at] ^= 1 + random.below(255) as u8;
@@ -94,7 +110,7 @@ fn out_of_reach(field: Field, released: u32, random: &mut Random) -> Vec<u8> {
     Data { base, width: 1, slots, symbols }.write(field).expect("contents in order")
 }
 
-fn heard(receiver: &mut Receiver, frame: &[u8]) -> String {
+fn heard(receiver: &mut impl Receives, frame: &[u8]) -> String {
     let answer = receiver.arrive(frame);
     let (released, unseen) = receiver.report();
     let mut said = match &answer {

@@ -1,26 +1,35 @@
 //! Another implementation of the protocol, written from docs/PROTOCOL.md, and the runs that compare the two.
 //!
-//!     other PROGRAMS [SEED]     PROGRAMS is the folder of the built programs; without a SEED the clock gives one
+//!     other CRATES [SEED]     CRATES is the folder of the crates, each with its built program in out/
 //!
-//! Prints its seed, a line for each comparison, and last 'N passed, M failed'.
+//! What is compared by the first seed is the same in each run, and by the second another each time: the first is 1, and
+//! the clock gives the second. A SEED stands for both. Prints each seed, a line for each comparison, and last
+//! 'N passed, M failed'.
 
+mod alone;
+mod alone_jobs;
 mod damage;
 mod field;
 mod file;
 mod frame;
-mod jobs;
+mod job;
+mod lean_receiver;
 mod link;
 mod listening;
-mod program;
 mod random;
 mod receiver;
 mod rig;
+mod rounds;
+mod rounds_jobs;
 mod sender;
 mod source;
 
 use field::Field;
-use jobs::Case;
+use lean_receiver::LeanReceiver;
+use listening::{ALL_BREAKS, Break, FOUR_BREAKS};
 use random::Random;
+use receiver::{Receiver, Receives};
+use rounds_jobs::Case;
 use std::collections::BTreeMap;
 use std::io::Write;
 use std::process::{Command, Stdio};
@@ -74,12 +83,23 @@ fn show(bytes: &[u8]) -> String {
     String::from_utf8_lossy(&bytes[..bytes.len().min(80)]).into_owned()
 }
 
-/// What the program writes for whole jobs, byte for byte. Every field and source has to end whole at least once, and
-/// every refusal has to come up.
-fn compare(haul: &str, cases: &[Case], what: &str) -> Check {
+/// What `haul` writes for jobs, byte for byte.
+fn alone(haul: &str, jobs: &[Vec<u8>], what: &str) -> Check {
+    for (i, job) in jobs.iter().enumerate() {
+        let (here, there) = (alone::answer(job), run(haul, job)?);
+        if here != there {
+            return Err(format!("{what}, job {i}, {:?}: {:?} here, {:?} there", show(job), show(&here), show(&there)));
+        }
+    }
+    Ok(format!("{what}: {} jobs agree", jobs.len()))
+}
+
+/// What `deliver` writes for jobs, byte for byte. Every field and source has to end whole at least once, and every
+/// refusal has to come up.
+fn rounds(deliver: &str, cases: &[Case], what: &str) -> Check {
     let mut kinds: BTreeMap<String, u32> = BTreeMap::new();
     for (i, case) in cases.iter().enumerate() {
-        let there = run(haul, &case.job)?;
+        let there = run(deliver, &case.job)?;
         if case.answer != there || !case.shows_the_file(&there) {
             let path = format!("target/tests/{}.job", what.replace(' ', "_"));
             std::fs::write(&path, &case.job).map_err(|e| e.to_string())?;
@@ -88,7 +108,7 @@ fn compare(haul: &str, cases: &[Case], what: &str) -> Check {
         }
         *kinds.entry(case.kind()).or_default() += 1;
     }
-    let wanted = jobs::DIGITS.map(|digits| format!("{digits} whole")).into_iter();
+    let wanted = rounds_jobs::DIGITS.map(|digits| format!("{digits} whole")).into_iter();
     match wanted.chain([6, 7, 8].map(|n| format!("job {n}"))).find(|kind| !kinds.contains_key(kind)) {
         Some(kind) => Err(format!("{what}: {kind} never came up")),
         None => Ok(format!("{what}: {} jobs agree, {kinds:?}", cases.len())),
@@ -114,11 +134,11 @@ fn readings(inspect: &str, frame: &[u8], what: &str) -> Check {
 
 /// What a receiver answers to random and adversarial frames. Every kind of answer has to come up; only in residues are
 /// there bytes that hold no code.
-fn sessions(listen: &str, field: Field, random: &mut Random) -> Check {
+fn sessions<R: Receives>(listen: &str, field: Field, breaks: &[Break], random: &mut Random) -> Check {
     let (count, frames) = (12, 150);
     let mut answers: BTreeMap<String, u32> = BTreeMap::new();
     for i in 0..count {
-        let (capture, here) = listening::session(field, frames, random);
+        let (capture, here) = listening::session::<R>(field, frames, breaks, random);
         let there = String::from_utf8(run(listen, &capture)?).map_err(|e| e.to_string())?;
         if let Some((line, (a, b))) = here.lines().zip(there.lines()).enumerate().find(|(_, (a, b))| a != b) {
             let (a, b) = (show(a.as_bytes()), show(b.as_bytes()));
@@ -154,28 +174,74 @@ fn driven(program: &str, commands: &[rig::Command], what: &str) -> Check {
     if rest.is_empty() { Ok(format!("{what}: {} commands agree", commands.len())) } else { Err(format!("{what}: more there")) }
 }
 
-fn main() {
-    let mut arguments = std::env::args().skip(1);
-    let programs = arguments.next().expect("the folder of the built programs");
-    let [haul, inspect, listen, rig] = ["haul", "inspect", "listen", "rig"].map(|name| format!("{programs}/{name}"));
-    let seed = arguments.next().map_or_else(clock, |s| s.parse().expect("a number as seed"));
-    println!("other: seed {seed}; tests/compare {seed} repeats this run");
+struct Programs {
+    haul: String,
+    deliver: String,
+    inspect: String,
+    listen: String,
+    rig: String,
+}
+
+impl Programs {
+    fn below(crates: &str) -> Programs {
+        let [haul, deliver, inspect, listen, rig] =
+            ["haul", "deliver", "inspect", "listen", "rig"].map(|name| format!("{crates}/{name}/out/{name}"));
+        Programs { haul, deliver, inspect, listen, rig }
+    }
+}
+
+/// What the first seed is for. The order of the draws is part of what it chooses.
+fn same_each_time(programs: &Programs, seed: u64) -> Vec<bool> {
+    let Programs { haul, inspect, listen, rig, .. } = programs;
+    println!("other: seed {seed}");
     let mut random = Random::new(seed);
-    let passed = [
+    let chosen = alone_jobs::chosen(300, &mut random);
+    vec![
         tell(tables(Field::Bytes, lambjade_bytes_mul, lambjade_bytes_inverse)),
         tell(tables(Field::Residues, lambjade_residues_mul, lambjade_residues_inverse)),
-        tell(readings(&inspect, &damage::full(Field::Bits, &mut random), "data in bits")),
-        tell(readings(&inspect, &damage::full(Field::Bytes, &mut random), "data in bytes")),
-        tell(readings(&inspect, &damage::full(Field::Residues, &mut random), "data in residues")),
-        tell(readings(&inspect, &[4, 0, 0, 1, 2, 0, 1, 0, 0], "reports")),
-        tell(driven(&rig, &rig::all_draws(&mut random), "sources")),
-        tell(driven(&rig, &rig::all_steps(&mut random), "links")),
-        tell(sessions(&listen, Field::Bits, &mut random)),
-        tell(sessions(&listen, Field::Bytes, &mut random)),
-        tell(sessions(&listen, Field::Residues, &mut random)),
-        tell(compare(&haul, &jobs::edges(), "jobs at the edges")),
-        tell(compare(&haul, &jobs::chosen(320, &mut random), "chosen jobs")),
-    ];
+        tell(readings(inspect, &damage::full(Field::Bits, &mut random), "data in bits")),
+        tell(readings(inspect, &damage::full(Field::Bytes, &mut random), "data in bytes")),
+        tell(readings(inspect, &damage::full(Field::Residues, &mut random), "data in residues")),
+        tell(readings(inspect, &[4, 0, 0, 1, 2, 0, 1, 0, 0], "reports")),
+        tell(driven(rig, &rig::all_draws(&mut random), "sources")),
+        tell(driven(rig, &rig::all_steps(&mut random), "links")),
+        tell(sessions::<Receiver>(listen, Field::Bits, &FOUR_BREAKS, &mut random)),
+        tell(sessions::<Receiver>(listen, Field::Bytes, &FOUR_BREAKS, &mut random)),
+        tell(sessions::<Receiver>(listen, Field::Residues, &FOUR_BREAKS, &mut random)),
+        tell(alone(haul, &alone_jobs::edges(), "packets alone at the edges")),
+        tell(alone(haul, &chosen, "packets alone chosen")),
+    ]
+}
+
+/// What the second seed is for. The order of the draws is part of what it chooses.
+fn others_each_time(programs: &Programs, seed: u64) -> Vec<bool> {
+    let Programs { haul, deliver, inspect, listen, rig } = programs;
+    println!("other: seed {seed}; tests/compare {seed} repeats what follows");
+    let mut random = Random::new(seed);
+    vec![
+        tell(readings(inspect, &damage::full(Field::Bits, &mut random), "data in bits")),
+        tell(readings(inspect, &damage::full(Field::Bytes, &mut random), "data in bytes")),
+        tell(readings(inspect, &damage::full(Field::Residues, &mut random), "data in residues")),
+        tell(driven(rig, &rig::all_draws(&mut random), "sources")),
+        tell(driven(rig, &rig::all_steps(&mut random), "links")),
+        tell(sessions::<LeanReceiver>(listen, Field::Bits, &ALL_BREAKS, &mut random)),
+        tell(sessions::<LeanReceiver>(listen, Field::Bytes, &ALL_BREAKS, &mut random)),
+        tell(sessions::<LeanReceiver>(listen, Field::Residues, &ALL_BREAKS, &mut random)),
+        tell(rounds(deliver, &rounds_jobs::edges(), "rounds at the edges")),
+        tell(rounds(deliver, &rounds_jobs::chosen(320, &mut random), "rounds chosen")),
+        tell(alone(haul, &alone_jobs::chosen(300, &mut random), "packets alone chosen")),
+    ]
+}
+
+fn main() {
+    let mut arguments = std::env::args().skip(1);
+    let programs = Programs::below(&arguments.next().expect("the folder of the crates"));
+    let seed: Option<u64> = arguments.next().map(|s| s.parse().expect("a number as seed"));
+    let passed = [
+        same_each_time(&programs, seed.unwrap_or(1)),
+        others_each_time(&programs, seed.unwrap_or_else(clock)),
+    ]
+    .concat();
     let failed = passed.iter().filter(|&&passed| !passed).count();
     println!("{} passed, {failed} failed", passed.len() - failed);
     std::process::exit(i32::from(failed > 0));

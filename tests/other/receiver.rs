@@ -1,20 +1,15 @@
-//! A receiver that keeps every frame it accepted and solves for the packets it lacks anew, from all of them.
+//! A receiver that keeps every frame it accepted and works everything out from all of them, each time.
 
 use crate::field::Field;
 use crate::frame::{Data, SYMBOLS, WINDOW};
-use std::collections::BTreeSet;
 
-/// Coefficients of the 32 packets from the oldest unreleased one on, with the payload behind them.
+/// A row over all packet numbers up to the end of the last frame, with its payload behind it.
 type Equation = Vec<u32>;
 
 pub struct Receiver {
     field: Field,
-    /// Each frame once: an equation said twice says no more.
-    accepted: BTreeSet<Data>,
-    /// All packets released so far.
-    released: Vec<Vec<u32>>,
-    /// What the accepted frames say of the packets not released.
-    solved: Vec<Equation>,
+    accepted: Vec<Data>,
+    released: usize,
 }
 
 #[derive(Clone, PartialEq, Eq, Debug)]
@@ -24,67 +19,77 @@ pub enum Answer {
     Repeat,
 }
 
-impl Receiver {
-    pub fn new(field: Field) -> Receiver {
-        Receiver { field, accepted: BTreeSet::new(), released: Vec::new(), solved: Vec::new() }
+/// What a session asks of a receiver.
+pub trait Receives {
+    fn new(field: Field) -> Self;
+
+    fn arrive(&mut self, frame: &[u8]) -> Result<Answer, u32>;
+
+    /// The released count and the oldest unseen number.
+    fn report(&self) -> (u32, u32);
+
+    /// The unseen numbers that some accepted frame reaches.
+    fn missing(&self) -> Vec<u32>;
+}
+
+impl Receives for Receiver {
+    fn new(field: Field) -> Receiver {
+        Receiver { field, accepted: Vec::new(), released: 0 }
     }
 
-    pub fn arrive(&mut self, frame: &[u8]) -> Result<Answer, u32> {
+    fn arrive(&mut self, frame: &[u8]) -> Result<Answer, u32> {
         let data = Data::read(self.field, frame)?;
-        if data.base as usize + WINDOW < self.released.len() {
+        let (base, end) = (data.base as usize, data.base as usize + usize::from(data.width));
+        if base + WINDOW < self.released {
             return Err(16);
         }
-        if data.end() > self.released.len() + WINDOW {
+        if end > self.released + WINDOW {
             return Err(17);
         }
-        if !self.accepted.insert(data.clone()) {
-            return Ok(Answer::Repeat);
-        }
-        let after = self.solve(&data);
+        let before = self.solve(&self.accepted);
+        self.accepted.push(data);
+        let after = self.solve(&self.accepted);
         if after.iter().any(|row| pivot(row).is_none()) {
-            self.accepted.remove(&data);
+            self.accepted.pop();
             return Err(18);
         }
-        if after.len() == self.solved.len() {
+        if after.len() == before.len() {
             return Ok(Answer::Repeat);
         }
-        let known: Vec<Vec<u32>> = (0..WINDOW).map_while(|k| packet(&after, k)).collect();
-        self.released.extend(known.iter().cloned());
-        self.solved = if known.is_empty() { after } else { self.solve(&data) };
+        let known: Vec<Vec<u32>> = (self.released..).map_while(|k| packet(&after, k)).collect();
+        self.released += known.len();
         Ok(Answer::Fresh(known))
     }
 
-    /// All packets released so far, in order.
-    pub fn released(&self) -> &[Vec<u32>] {
-        &self.released
-    }
-
-    /// The released count and the oldest unseen number.
-    pub fn report(&self) -> (u32, u32) {
+    fn report(&self) -> (u32, u32) {
         let seen = self.seen();
-        let oldest = (self.released.len()..).find(|k| !seen.contains(k)).expect("a number");
-        (self.released.len() as u32, oldest as u32)
+        let oldest = (0..).find(|k| !seen.contains(k)).expect("a number");
+        (self.released as u32, oldest as u32)
     }
 
-    /// The unseen numbers that some accepted frame reaches.
-    pub fn missing(&self) -> Vec<u32> {
+    fn missing(&self) -> Vec<u32> {
         let seen = self.seen();
-        let top = self.accepted.iter().map(Data::end).max().unwrap_or(0);
-        (self.released.len()..top).filter(|k| !seen.contains(k)).map(|k| k as u32).collect()
+        (self.released..self.top()).filter(|k| !seen.contains(k)).map(|k| k as u32).collect()
     }
+}
 
-    /// The seen numbers among those not released.
+impl Receiver {
     fn seen(&self) -> Vec<usize> {
-        self.solved.iter().filter_map(pivot).map(|k| self.released.len() + k).collect()
+        self.solve(&self.accepted).iter().filter_map(pivot).collect()
     }
 
-    /// The newest accepted frame and all that reach past the released packets, as equations in reduced row echelon form,
-    /// without the rows that are all 0. A contradiction leaves a row that is 0 but for its payload.
-    fn solve(&self, newest: &Data) -> Vec<Equation> {
-        let open = self.accepted.iter().filter(|data| data.end() > self.released.len() || *data == newest);
-        let mut rows: Vec<Equation> = open.map(|data| self.equation(data)).collect();
+    /// The end of the packets that accepted frames reach.
+    fn top(&self) -> usize {
+        self.accepted.iter().map(|data| data.base as usize + usize::from(data.width)).max().unwrap_or(0)
+    }
+
+    /// All frames as equations, in reduced row echelon form, without the rows that are all 0. A contradiction leaves
+    /// a row that is 0 but for its payload.
+    fn solve(&self, frames: &[Data]) -> Vec<Equation> {
+        let columns = frames.iter().map(|data| data.base as usize + WINDOW).max().unwrap_or(0);
+        let mut rows: Vec<Equation> = frames.iter().map(|data| equation(data, columns)).collect();
         let mut done = 0;
-        for column in 0..WINDOW {
+        for column in 0..columns {
             let Some(at) = (done..rows.len()).find(|&i| rows[i][column] != 0) else {
                 continue;
             };
@@ -94,7 +99,9 @@ impl Receiver {
             for (i, row) in rows.iter_mut().enumerate() {
                 let factor = row[column];
                 if i != done && factor != 0 {
-                    self.subtract(row, factor, &lead);
+                    for (x, &y) in row.iter_mut().zip(&lead) {
+                        *x = self.field.sub(*x, self.field.mul(factor, y));
+                    }
                 }
             }
             rows[done] = lead;
@@ -103,35 +110,24 @@ impl Receiver {
         rows.retain(|row| row.iter().any(|&x| x != 0));
         rows
     }
+}
 
-    /// A frame with the released packets put in.
-    fn equation(&self, data: &Data) -> Equation {
-        let (mut row, mut payload) = (vec![0; WINDOW], data.symbols.clone());
-        for (k, &coefficient) in (data.base as usize..).zip(&data.slots).filter(|(_, c)| **c != 0) {
-            match self.released.get(k) {
-                Some(packet) => self.subtract(&mut payload, coefficient, packet),
-                None => row[k - self.released.len()] = coefficient,
-            }
-        }
-        row.extend(payload);
-        row
-    }
-
-    fn subtract(&self, from: &mut [u32], factor: u32, codes: &[u32]) {
-        for (x, &y) in from.iter_mut().zip(codes) {
-            *x = self.field.sub(*x, self.field.mul(factor, y));
-        }
-    }
+fn equation(data: &Data, columns: usize) -> Equation {
+    let mut row = vec![0; columns];
+    row[data.base as usize..data.base as usize + WINDOW].copy_from_slice(&data.slots);
+    row.extend(&data.symbols);
+    row
 }
 
 /// Where a row of a solved system begins; nowhere, if only its payload is not 0.
 fn pivot(row: &Equation) -> Option<usize> {
-    (0..WINDOW).find(|&k| row[k] != 0)
+    (0..row.len() - SYMBOLS).find(|&k| row[k] != 0)
 }
 
-/// The packet at place k, if the solved system has it alone.
+/// Packet k, if the solved system has it alone.
 fn packet(rows: &[Equation], k: usize) -> Option<Vec<u32>> {
     let row = rows.iter().find(|row| pivot(row) == Some(k))?;
-    let alone = (0..WINDOW).all(|j| j == k || row[j] == 0);
-    alone.then(|| row[WINDOW..WINDOW + SYMBOLS].to_vec())
+    let coefficients = row.len() - SYMBOLS;
+    let alone = (0..coefficients).all(|j| j == k || row[j] == 0);
+    alone.then(|| row[coefficients..].to_vec())
 }

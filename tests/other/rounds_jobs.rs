@@ -1,7 +1,8 @@
-//! Jobs to compare on: right ones of every kind, and wrong ones of every kind.
+//! Jobs to compare `deliver` on: right ones of every kind, and wrong ones of every kind.
 
-use crate::program;
+use crate::job::with_file;
 use crate::random::Random;
+use crate::rounds;
 
 /// A job, and what the program has to write for it.
 pub struct Case {
@@ -11,7 +12,7 @@ pub struct Case {
 
 impl Case {
     fn new(job: Vec<u8>) -> Case {
-        let answer = program::answer(&job);
+        let answer = rounds::answer(&job);
         Case { job, answer }
     }
 
@@ -101,12 +102,6 @@ fn job(random: &mut Random) -> Vec<u8> {
         3 => long_file(random),
         _ => good(random),
     }
-}
-
-fn with_file(digits: &str, script: &str, file: &[u8]) -> Vec<u8> {
-    let mut job = format!("{digits} {script}\n").into_bytes();
-    job.extend_from_slice(file);
-    job
 }
 
 /// A script, short or long, of all letters alike or with few or many of one kind.
