@@ -1,1 +1,2 @@
+pub mod Shifting
 pub mod Fill

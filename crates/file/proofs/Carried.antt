@@ -48,7 +48,7 @@ at_byte =
     (λ j i h l. (omega arith, omega arith, omega arith, omega arith)) (λ j i h l. (omega arith, omega arith, omega arith, omega arith))
 
 -- the symbols of byte j of packet k spell it
-packet_part : (s : Spelling) → Known s → (file : List ℕ) (k j : ℕ) → j < s.room
+pub packet_part : (s : Spelling) → Known s → (file : List ℕ) (k j : ℕ) → j < s.room
     → between (s.digits * j) (s.digits * (j + 1)) (packet_of s file k) ≡ spelled s.base s.digits (get_or (loaded file) (s.room * k + j) 0)
 unfolding spelled
 packet_part s sk file k j h =

@@ -3,6 +3,7 @@ pub mod Counts
 pub mod Digits
 pub mod Beside
 pub mod Fills
+pub mod Spelled
 pub mod Loads
 pub mod Spellings
 pub mod Steps

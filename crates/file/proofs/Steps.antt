@@ -1,14 +1,20 @@
 -- The cases of taking and adding a packet.
-use Rattle.std.proofs.Common.{◌≡◌, ℕ, ◌+◌, ◌*◌, ◌<◌, ◌≤◌, true, false, ◌&&◌, eqb, ltb, List, length, Ok, Err, Decides, refl, ap, ◌∙◌, arith}
+use Rattle.std.proofs.Common.{◌≡◌, ℕ, ◌+◌, ◌*◌, ◌<◌, ◌≤◌, Bool, true, false, ◌&&◌, eqb, ltb, List, [], ◌∷◌, length, Ok, Err, Decides, refl, ap, ◌∙◌, arith}
 use Rattle.refusal.specs.declared.Refusal.TheVariants.{ShortBuffer, BadPacket, NotAByte, LongRecord}
 use Rattle.std.proofs.lemmas.Bool.{and_from, cond-true, cond-false, eq-eqb, ne_eqb, leb-false, le-ltb, lt-ltb, not_from_true, not_from_false}
 use Rattle.std.proofs.lemmas.Bool.Decides.{Decides-ltb}
 use Rattle.std.proofs.ByRecursion.{Decides-by_and}
 use Rattle.std.specs.Int.Digits.{AllBelowBase}
 use Rattle.file.specs.declared.spelling.Spelling.{Spelling}
+use Rattle.field.specs.Lists.{below as below_each}
 use Rattle.file.specs.Filling.{below, complete, length_in, size_with_packet, buffer_with, taking, adding}
 use Rattle.file.specs.Spelling.{Known, spelling_of}
 use Rattle.file.proofs.Spellings.{both}
+
+-- the test that field makes of each number is this one
+pub below_in_field : (limit : ℕ) (xs : List ℕ) → below_each limit xs ≡ below limit xs
+below_in_field limit [] = refl
+below_in_field limit (x ∷ xs) = ap (λ (b : Bool). ltb x limit && b) (below_in_field limit xs)
 
 -- the test of each number, as a fact
 decided : (limit : ℕ) (xs : List ℕ) → Decides (below limit xs) (AllBelowBase limit xs)

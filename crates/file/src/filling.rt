@@ -116,12 +116,7 @@ impl<F: Field> Filling<F> {
 fn all_below(numbers: &[u16], limit: u16) -> bool
     ensures { result ≡ below limit numbers.now }
 {
-    for number in numbers {
-        if *number >= limit {
-            return false;
-        }
-    }
-    true
+    field::all_below(numbers, limit)
 }
 
 // Writes the bytes of the file that the packet after the taken ones holds at their places.

@@ -32,9 +32,12 @@ pub fn packet<F: Field>(file: &[u8], number: u32) -> Result<[u16; 128], Refusal>
     let spelling = Spelling::of::<F>();
     let start = spelling.room * number as usize;
     let mut symbols = [0; SYMBOLS];
-    for i in 0..SYMBOLS {
-        let byte = held(file, start + i / spelling.digits);
-        symbols[i] = spelling.symbol(byte, i % spelling.digits);
+    for i in 0..spelling.room {
+        let at = spelling.digits * i;
+        spelling.spell(
+            held(file, start + i),
+            &mut symbols[at..at + spelling.digits],
+        );
     }
     Ok(symbols)
 }

@@ -4,7 +4,7 @@
 //! the whole byte; in any other a symbol is a bit.
 ghost use Rattle.std.specs.Prelude.{◌≡◌, ◌<◌, length};
 ghost use Rattle.std.specs.Int.Digits.{number_from_digits, AllBelowBase};
-ghost use Rattle.file.specs.Spelling.{spelling_of, Known, digit, byte_of};
+ghost use Rattle.file.specs.Spelling.{spelling_of, Known, digit, spelled, byte_of};
 
 use field::Field;
 
@@ -44,8 +44,18 @@ impl Spelling {
         requires { (Known self) × (place < self.digits) }
         ensures { result ≡ digit self.base self.digits byte place }
     {
-        let below = (self.digits - 1 - place) as u32;
-        u16::from(byte) / self.base.pow(below) % self.base
+        // Below a symbol's place there are bits, or nothing.
+        (u16::from(byte) >> (self.digits - 1 - place)) % self.base
+    }
+
+    /// Writes the symbols that spell the byte.
+    pub(crate) fn spell(self, byte: u8, symbols: &mut [u16])
+        requires { (Known self) × (length symbols.old ≡ self.digits) }
+        ensures { symbols.new ≡ spelled self.base self.digits byte }
+    {
+        for place in 0..symbols.len() {
+            symbols[place] = self.symbol(byte, place);
+        }
     }
 
     /// The byte that the symbols spell.

@@ -2,6 +2,7 @@
 use Rattle.std.proofs.Common.{◌≡◌, ℕ, zero, suc, ◌+◌, ◌<◌, ◌≤◌, Bool, true, false, ◌&&◌, List, [], ◌∷◌, length, get_or, drop, refl, ap, ◌∙◌, arith}
 use Rattle.std.proofs.lemmas.List.{at_drop_more, at_drop_all}
 use Rattle.std.proofs.lemmas.Bool.{and_parts, and_from}
+use Rattle.field.specs.Lists.{every as each}
 use Rattle.frame.specs.DataFrame.{every}
 
 module _ (f : ℕ → Bool) where
@@ -27,3 +28,8 @@ module _ (f : ℕ → Bool) where
   pub every-from : (xs : List ℕ) → ((k : ℕ) → k < length xs → f (get_or xs k 0) ≡ true) → every f xs ≡ true
   every-from [] h = refl
   every-from (x ∷ xs) h = and_from (f x) (every f xs) (h 0 (omega arith)) (every-from xs (λ k b. h (suc k) (omega arith)))
+
+  -- the test that field makes of every number is this one
+  pub every_in_field : (xs : List ℕ) → each f xs ≡ every f xs
+  every_in_field [] = refl
+  every_in_field (x ∷ xs) = ap (λ (b : Bool). f x && b) (every_in_field xs)

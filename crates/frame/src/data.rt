@@ -24,12 +24,7 @@ const HEAD: usize = 6;
 fn all_below(codes: &[u16], q: u16) -> bool
     ensures { result ≡ every (λ x. nat_lt x q) codes.now }
 {
-    for code in codes {
-        if *code >= q {
-            return false;
-        }
-    }
-    true
+    field::all_below(codes, q)
 }
 
 // Whether every number is 0.

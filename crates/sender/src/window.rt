@@ -4,7 +4,7 @@ ghost use Rattle.field.specs.Field.{plus, times};
 ghost use Rattle.sender.specs.Steps.{Sound, admitting, empty, hearing, is_packet_lem, packet_at, payload, sending, width};
 
 use carried::Carried;
-use field::Field;
+use field::{Field, all_below};
 use frame::{Data, STREAM, SYMBOLS, WINDOW, read_report, write_data};
 use refusal::Refusal;
 use source::Source;
@@ -24,13 +24,7 @@ pub struct Window {
 fn is_packet<F: Field>(packet: &[u16]) -> bool
     ensures { result ≡ is_packet_lem F.Field.means.q packet.now }
 {
-    let q = F::order();
-    for symbol in packet {
-        if *symbol >= q {
-            return false;
-        }
-    }
-    packet.len() == SYMBOLS
+    all_below(packet, F::order()) && packet.len() == SYMBOLS
 }
 
 // Adds a multiple of a packet to a sum of packets.

@@ -1,23 +1,19 @@
-use Rattle.std.proofs.Common.{ℕ, ◌&&◌, eqb, ltb, length, sym, ap, ◌∙◌, arith}
-use Rattle.std.proofs.lemmas.Bool.{lt-ltb, le-ltb}
-use Rattle.frame.proofs.Every.{passes, fails, ends}
-use Rattle.sender.specs.Steps.{is_packet_lem}
+use Rattle.std.proofs.Common.{◌≡◌, ℕ, Bool, true, false, ◌&&◌, eqb, ltb, List, length, sym, ap, ◌∙◌}
+use Rattle.frame.specs.DataFrame.{every}
+use Rattle.frame.proofs.Every.{every_in_field}
+use Rattle.field.specs.Lists.{below}
 use Rattle.sender.proofs.window.is_packet.Goals as goal
 
-pub returns-then-symbol-q : goal.returns-then-symbol-q
-returns-then-symbol-q g c =
-    let xs = c.args.packet.now in
-    let q = c.order-q.result in
-    let none = sym (fails (λ x. ltb x q) xs c.loop-symbol.symbol-index (omega arith) (le-ltb _ _ (omega arith))) ∙ c.loop-symbol.invariant in
-    ap (λ b. b && eqb (length xs) 128) none ∙ ap (λ (z : ℕ). is_packet_lem z xs) c.order-q.ensures
+-- the test of every symbol, as a call has answered it
+tested : (m q : ℕ) (xs : List ℕ) (b : Bool) → m ≡ q → b ≡ below m xs → every (λ x. ltb x q) xs ≡ b
+tested m q xs b e h = sym (h ∙ every_in_field (λ x. ltb x m) xs ∙ ap (λ (l : ℕ). every (λ x. ltb x l) xs) e)
 
-pub loop-symbol-preserved : goal.loop-symbol-preserved
-loop-symbol-preserved g c =
-    sym (passes (λ x. ltb x c.order-q.result) c.args.packet.now c.loop-symbol.symbol-index (omega arith) (lt-ltb _ _ (omega arith))) ∙ c.loop-symbol.invariant
-
-pub returns : goal.returns
-returns g c =
+pub returns-then-all_below : goal.returns-then-all_below
+returns-then-all_below g c =
     let xs = c.args.packet.now in
-    let q = c.order-q.result in
-    let all = sym (ends (λ x. ltb x q) xs c.loop-symbol.symbol-index (omega arith)) ∙ c.loop-symbol.invariant in
-    ap (λ b. b && eqb (length xs) 128) all ∙ ap (λ (z : ℕ). is_packet_lem z xs) c.order-q.ensures
+    ap (λ (b : Bool). b && eqb (length xs) 128) (sym (tested _ g.F.Field.means.q xs true c.order.ensures c.if-all_below.ensures))
+
+pub returns-else-all_below : goal.returns-else-all_below
+returns-else-all_below g c =
+    let xs = c.args.packet.now in
+    c.if-all_below.false ∙ ap (λ (b : Bool). b && eqb (length xs) 128) (sym (tested _ g.F.Field.means.q xs false c.order.ensures c.if-all_below.ensures))

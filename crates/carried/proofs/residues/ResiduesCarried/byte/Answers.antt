@@ -1,0 +1,6 @@
+use Rattle.std.proofs.Common.{◌%◌, mod-lt, lit<}
+use Rattle.carried.proofs.Shifting.{shifted}
+use Rattle.carried.proofs.residues.ResiduesCarried.byte.Goals as goal
+
+pub returns : goal.returns
+returns c = shifted c.code_at.result _ (c.args.k % 2) c.code_at.type_inv (mod-lt _ (lit< tt)) c.code_at.ensures
