@@ -7,7 +7,7 @@ use Rattle.field.specs.Field.{Means, Laws, times, inverse}
 use Rattle.elimination.proofs.Joining.{joined-reduced}
 use Rattle.elimination.proofs.Reducing.{reduced_zero, reduced-coded}
 use Rattle.elimination.proofs.Seeking.{Found, found}
-use Rattle.elimination.proofs.Zeros.{times_zero, inverse_there}
+use Rattle.field.proofs.Zeros.{times_zero, inverse_there}
 use Rattle.elimination.specs.Absorption.{settled, absorbed}
 use Rattle.elimination.specs.Reduced.{Coded, Reduced}
 use Rattle.elimination.specs.Rows.{times_all, times_row, scaled, nonzero, first_from}

@@ -2,7 +2,7 @@
 use Rattle.std.proofs.Common.{◌≡◌, ℕ, ◌<◌, List, length, get_or, sym, ap, ◌∙◌, subst, arith}
 use Rattle.std.proofs.lemmas.List.FromFn.{length-map-range_with_len, get_or-map-range_with_len}
 use Rattle.field.specs.Field.{Means, Laws, minus, times}
-use Rattle.elimination.proofs.Zeros.{minus_zero, minus_self, times_zero, zero_times}
+use Rattle.field.proofs.Zeros.{minus_zero, minus_self, times_zero, zero_times}
 use Rattle.elimination.specs.Reduced.{Coded}
 use Rattle.elimination.specs.Rows.{less, less_all}
 use Rattle.elimination.specs.Tables.{cleared}

@@ -65,12 +65,7 @@ fn scale_codes<F: Field>(codes: &mut [u16], factor: u16)
 pub(crate) fn all_zero(codes: &[u16]) -> bool
     ensures { result ≡ zeros codes.now }
 {
-    for code in codes {
-        if *code != 0 {
-            return false;
-        }
-    }
-    true
+    field::all_zero(codes)
 }
 
 impl Row {

@@ -31,12 +31,7 @@ fn all_below(codes: &[u16], q: u16) -> bool
 fn all_zero(codes: &[u16]) -> bool
     ensures { result ≡ every (λ x. nat_eq x 0) codes.now }
 {
-    for code in codes {
-        if *code != 0 {
-            return false;
-        }
-    }
-    true
+    field::all_zero(codes)
 }
 
 // How many bytes the slots take: their share of the body.

@@ -10,7 +10,7 @@ use Rattle.std.specs.List.{AllByRecursion as All}
 use Rattle.field.specs.Field.{Means, Laws, times, inverse}
 use Rattle.elimination.proofs.Same.{same_row}
 use Rattle.elimination.proofs.Turns.{seek_yes}
-use Rattle.elimination.proofs.Zeros.{inverse_there}
+use Rattle.field.proofs.Zeros.{inverse_there}
 use Rattle.elimination.specs.Absorption.{absorption, absorbed, decided, settled, with_pivot}
 use Rattle.elimination.specs.Loops.{turns, every}
 use Rattle.elimination.specs.Rows.{times_all, times_row, scaled, nonzero, first_from, zero_beside, unit_at}

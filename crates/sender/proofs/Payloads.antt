@@ -1,9 +1,8 @@
 -- Sums over a window: as a loop makes them, and as the part of a stream's sum that counts.
-use Rattle.std.proofs.Common.{◌≡◌, ℕ, zero, suc, ◌+◌, ◌-◌, ◌<◌, ◌≤◌, ◌⊎◌, sym, refl, ap, ◌∙◌, ap₂, inl, inr, add-zero, add-suc, add-one, arith}
-use Rattle.field.specs.Field.{Means, Laws, plus, times}
+use Rattle.std.proofs.Common.{◌≡◌, ℕ, zero, suc, ◌+◌, ◌-◌, ◌<◌, ◌≤◌, ◌⊎◌, refl, ap, ◌∙◌, ap₂, inl, inr, add-zero, add-suc, add-one, arith}
+use Rattle.field.specs.Field.{Means, Laws, plus}
 use Rattle.algebra.specs.Streams.{sum}
-use Rattle.algebra.proofs.Scalars.{mul_zero}
-use Rattle.algebra.proofs.Codes.{q_pos, code, code_zero, code_same, code-times, scalars, sum-code}
+use Rattle.algebra.proofs.Codes.{q_pos, sum-code}
 
 pub sum-none : (m : Means) (f : ℕ → ℕ) → sum m 0 f ≡ 0
 unfolding sum
@@ -19,12 +18,6 @@ sum_same m zero f g h = refl
 sum_same m (suc n) f g h = ap₂ (plus m) (sum_same m n f g (λ k l. h k (omega arith))) (h n (omega arith))
 
 module _ (m : Means) (laws : Laws m) where
-  pub zero_times : (a : ℕ) → times m 0 a ≡ 0
-  zero_times a =
-      laws.times_comm 0 a
-      ∙ code_same m laws (laws.times_code a 0) (q_pos m laws)
-      (code-times m laws a 0 ∙ ap (λ z. (scalars m laws).◌⊡◌ (code m laws a) z) (code_zero m laws) ∙ mul_zero (scalars m laws) (code m laws a) ∙ sym (code_zero m laws))
-
   sum_zeros : (n : ℕ) (f : ℕ → ℕ) → ((k : ℕ) → k < n → f k ≡ 0) → sum m n f ≡ 0
   unfolding sum
   sum_zeros zero f h = refl

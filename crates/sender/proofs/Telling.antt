@@ -13,7 +13,8 @@ use Rattle.source.specs.Source.{Draws, DrawsLaws}
 use Rattle.sender.specs.declared.window.Window.{Window}
 use Rattle.sender.specs.Packets.{Begins, Holds, Tells, TellsPackets}
 use Rattle.sender.specs.Steps.{Sound, Sent, combined, payload, sending, packet_at, width}
-use Rattle.sender.proofs.Payloads.{sum_same, sum-window, zero_times}
+use Rattle.field.proofs.Zeros.{zero_times}
+use Rattle.sender.proofs.Payloads.{sum_same, sum-window}
 use Rattle.sender.proofs.Sending.{combined-proper, payload-at, wrote}
 
 module _ {S : Type 0} (w : ℕ) (whole : w % 8 ≡ 0) (m : Means) (laws : Laws m) (c : Carries) (lays : Lays w m.q c) (d : Draws S)
