@@ -1,6 +1,6 @@
 //! Jobs to compare `haul` on: right ones of every kind, and wrong ones of every kind.
 
-use crate::job::with_file;
+use crate::job::{with_bad_line, with_file};
 use crate::random::Random;
 
 /// So many jobs chosen by the generator.
@@ -59,10 +59,8 @@ fn no_line(random: &mut Random) -> Vec<u8> {
 }
 
 fn bad_line(random: &mut Random) -> Vec<u8> {
-    let mut job = good(random);
-    let at = random.below(3) as usize;
-    job[at] = random.next() as u8;
-    job
+    let job = good(random);
+    with_bad_line(job, random)
 }
 
 fn bad_script(random: &mut Random) -> Vec<u8> {

@@ -2,6 +2,7 @@
 
 use crate::field::Field;
 use crate::link::Link;
+use crate::random::Random;
 use crate::source::Source;
 
 pub struct Job {
@@ -40,5 +41,12 @@ pub fn parse(input: &[u8]) -> Result<Job, u32> {
 pub fn with_file(digits: &str, script: &str, file: &[u8]) -> Vec<u8> {
     let mut job = format!("{digits} {script}\n").into_bytes();
     job.extend_from_slice(file);
+    job
+}
+
+/// A job with any byte in place of one of its first three.
+pub fn with_bad_line(mut job: Vec<u8>, random: &mut Random) -> Vec<u8> {
+    let at = random.below(3) as usize;
+    job[at] = random.next() as u8;
     job
 }

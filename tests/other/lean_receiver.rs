@@ -2,13 +2,11 @@
 //!
 //! It is faster than the one that works everything out from all frames, so it can carry whole files.
 
+use crate::equations::{Equation, packet, pivot, solved, subtract};
 use crate::field::Field;
-use crate::frame::{Data, SYMBOLS, WINDOW};
+use crate::frame::{Data, WINDOW};
 use crate::receiver::{Answer, Receives};
 use std::collections::BTreeSet;
-
-/// Coefficients of the 32 packets from the oldest unreleased one on, with the payload behind them.
-type Equation = Vec<u32>;
 
 pub struct LeanReceiver {
     field: Field,
@@ -74,60 +72,22 @@ impl LeanReceiver {
         self.solved.iter().filter_map(pivot).map(|k| self.released.len() + k).collect()
     }
 
-    /// The newest accepted frame and all that reach past the released packets, as equations in reduced row echelon form,
-    /// without the rows that are all 0. A contradiction leaves a row that is 0 but for its payload.
+    /// What the newest accepted frame and all that reach past the released packets say, solved.
     fn solve(&self, newest: &Data) -> Vec<Equation> {
         let open = self.accepted.iter().filter(|data| data.end() > self.released.len() || *data == newest);
-        let mut rows: Vec<Equation> = open.map(|data| self.equation(data)).collect();
-        let mut done = 0;
-        for column in 0..WINDOW {
-            let Some(at) = (done..rows.len()).find(|&i| rows[i][column] != 0) else {
-                continue;
-            };
-            rows.swap(done, at);
-            let inverse = self.field.inverse(rows[done][column]).expect("a code other than 0");
-            let lead: Equation = rows[done].iter().map(|&x| self.field.mul(x, inverse)).collect();
-            for (i, row) in rows.iter_mut().enumerate() {
-                let factor = row[column];
-                if i != done && factor != 0 {
-                    self.subtract(row, factor, &lead);
-                }
-            }
-            rows[done] = lead;
-            done += 1;
-        }
-        rows.retain(|row| row.iter().any(|&x| x != 0));
-        rows
+        solved(self.field, open.map(|data| self.equation(data)).collect())
     }
 
-    /// A frame with the released packets put in.
+    /// A frame with the released packets put in: coefficients of the 32 packets from the oldest unreleased one on.
     fn equation(&self, data: &Data) -> Equation {
         let (mut row, mut payload) = (vec![0; WINDOW], data.symbols.clone());
         for (k, &coefficient) in (data.base as usize..).zip(&data.slots).filter(|(_, c)| **c != 0) {
             match self.released.get(k) {
-                Some(packet) => self.subtract(&mut payload, coefficient, packet),
+                Some(packet) => subtract(self.field, &mut payload, coefficient, packet),
                 None => row[k - self.released.len()] = coefficient,
             }
         }
         row.extend(payload);
         row
     }
-
-    fn subtract(&self, from: &mut [u32], factor: u32, codes: &[u32]) {
-        for (x, &y) in from.iter_mut().zip(codes) {
-            *x = self.field.sub(*x, self.field.mul(factor, y));
-        }
-    }
-}
-
-/// Where a row of a solved system begins; nowhere, if only its payload is not 0.
-fn pivot(row: &Equation) -> Option<usize> {
-    (0..WINDOW).find(|&k| row[k] != 0)
-}
-
-/// The packet at place k, if the solved system has it alone.
-fn packet(rows: &[Equation], k: usize) -> Option<Vec<u32>> {
-    let row = rows.iter().find(|row| pivot(row) == Some(k))?;
-    let alone = (0..WINDOW).all(|j| j == k || row[j] == 0);
-    alone.then(|| row[WINDOW..WINDOW + SYMBOLS].to_vec())
 }

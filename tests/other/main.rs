@@ -9,6 +9,7 @@
 mod alone;
 mod alone_jobs;
 mod damage;
+mod equations;
 mod field;
 mod file;
 mod frame;

@@ -1,10 +1,8 @@
 //! A receiver that keeps every frame it accepted and works everything out from all of them, each time.
 
+use crate::equations::{Equation, packet, pivot, solved};
 use crate::field::Field;
-use crate::frame::{Data, SYMBOLS, WINDOW};
-
-/// A row over all packet numbers up to the end of the last frame, with its payload behind it.
-type Equation = Vec<u32>;
+use crate::frame::{Data, WINDOW};
 
 pub struct Receiver {
     field: Field,
@@ -83,51 +81,17 @@ impl Receiver {
         self.accepted.iter().map(|data| data.base as usize + usize::from(data.width)).max().unwrap_or(0)
     }
 
-    /// All frames as equations, in reduced row echelon form, without the rows that are all 0. A contradiction leaves
-    /// a row that is 0 but for its payload.
+    /// What the frames say, solved.
     fn solve(&self, frames: &[Data]) -> Vec<Equation> {
         let columns = frames.iter().map(|data| data.base as usize + WINDOW).max().unwrap_or(0);
-        let mut rows: Vec<Equation> = frames.iter().map(|data| equation(data, columns)).collect();
-        let mut done = 0;
-        for column in 0..columns {
-            let Some(at) = (done..rows.len()).find(|&i| rows[i][column] != 0) else {
-                continue;
-            };
-            rows.swap(done, at);
-            let inverse = self.field.inverse(rows[done][column]).expect("a code other than 0");
-            let lead: Equation = rows[done].iter().map(|&x| self.field.mul(x, inverse)).collect();
-            for (i, row) in rows.iter_mut().enumerate() {
-                let factor = row[column];
-                if i != done && factor != 0 {
-                    for (x, &y) in row.iter_mut().zip(&lead) {
-                        *x = self.field.sub(*x, self.field.mul(factor, y));
-                    }
-                }
-            }
-            rows[done] = lead;
-            done += 1;
-        }
-        rows.retain(|row| row.iter().any(|&x| x != 0));
-        rows
+        solved(self.field, frames.iter().map(|data| equation(data, columns)).collect())
     }
 }
 
+/// A frame as a row over so many packet numbers.
 fn equation(data: &Data, columns: usize) -> Equation {
     let mut row = vec![0; columns];
     row[data.base as usize..data.base as usize + WINDOW].copy_from_slice(&data.slots);
     row.extend(&data.symbols);
     row
-}
-
-/// Where a row of a solved system begins; nowhere, if only its payload is not 0.
-fn pivot(row: &Equation) -> Option<usize> {
-    (0..row.len() - SYMBOLS).find(|&k| row[k] != 0)
-}
-
-/// Packet k, if the solved system has it alone.
-fn packet(rows: &[Equation], k: usize) -> Option<Vec<u32>> {
-    let row = rows.iter().find(|row| pivot(row) == Some(k))?;
-    let coefficients = row.len() - SYMBOLS;
-    let alone = (0..coefficients).all(|j| j == k || row[j] == 0);
-    alone.then(|| row[coefficients..].to_vec())
 }

@@ -1,6 +1,6 @@
 //! Jobs to compare `deliver` on: right ones of every kind, and wrong ones of every kind.
 
-use crate::job::with_file;
+use crate::job::{with_bad_line, with_file};
 use crate::random::Random;
 use crate::rounds;
 
@@ -140,10 +140,8 @@ fn no_line(random: &mut Random) -> Vec<u8> {
 }
 
 fn bad_line(random: &mut Random) -> Vec<u8> {
-    let mut job = good(random);
-    let at = random.below(3) as usize;
-    job[at] = random.next() as u8;
-    job
+    let job = good(random);
+    with_bad_line(job, random)
 }
 
 fn bad_script(random: &mut Random) -> Vec<u8> {
