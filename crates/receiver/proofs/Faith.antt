@@ -34,7 +34,7 @@ verdict-is None x d e = cc
 verdict-is (Some r) x d e = absurd (let z : ◌≡◌ {A = ℕ} 0 1 = cc in omega arith)
 
 -- what can be read is what the bytes say
-read_is : (m : Means) (carries : Carries) (w : ℕ) (bytes : List ℕ) (d : Data) → reading m carries w bytes ≡ Ok d → d ≡ contents carries w bytes
+pub read_is : (m : Means) (carries : Carries) (w : ℕ) (bytes : List ℕ) (d : Data) → reading m carries w bytes ≡ Ok d → d ≡ contents carries w bytes
 read_is m carries w bytes d =
     verdict-is (first (misfit carries.kind carries.len bytes) (flaw m.q w (contents carries w bytes))) (contents carries w bytes) d
 
