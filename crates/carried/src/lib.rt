@@ -1,7 +1,7 @@
 //! How the codes of a field lie in bytes.
 #![tactic(auto)]
 
-ghost use Rattle.std.specs.Prelude.{◌≡◌, length, slice_index};
+ghost use Rattle.std.specs.Prelude.{◌≡◌, ℕ, length, slice_index};
 ghost use Rattle.carried.specs.Carries.{Carries, Lays, packed, unpacked};
 
 mod bits;
@@ -16,18 +16,14 @@ pub trait Carried: Field {
     /// The first byte of a data frame.
     const KIND: u8;
 
+    ghost KIND: { ℕ };
+
     /// The length of a data frame in bytes, at most 400.
     const LEN: usize;
 
+    ghost LEN: { ℕ };
+
     ghost carries: { Carries };
-
-    /// The kind, in the form that a contract of generic code can name.
-    fn frame_kind() -> u8
-        ensures { result ≡ carries.kind };
-
-    /// The length, in the form that a contract of generic code can name.
-    fn frame_len() -> usize
-        ensures { result ≡ carries.len };
 
     /// The byte at place k of the codes.
     fn byte(codes: &[u16], k: usize) -> u8
@@ -54,6 +50,10 @@ pub trait Carried: Field {
             codes[i] = Self::code(bytes, i);
         }
     }
+
+    ghost kind: { KIND ≡ carries.kind };
+
+    ghost len: { LEN ≡ carries.len };
 
     ghost lays: { Lays 32 Self.Field.means.q carries };
 }

@@ -1,4 +1,5 @@
 //! The field of two codes: sum and difference are exclusive or, product is and.
+ghost use Rattle.std.specs.Prelude.{refl};
 ghost use Rattle.field.specs.OfBits.{bits};
 ghost use Rattle.field.specs.BitsLaws.{bits_laws};
 ghost use Rattle.field.specs.Remainders.{all_laws};
@@ -10,13 +11,13 @@ pub struct Bits;
 impl Field for Bits {
     const Q: u16 = 2;
 
+    ghost Q = { 2 };
+
     ghost means = { bits };
 
-    ghost laws = { all_laws bits_laws };
+    ghost order = { refl };
 
-    fn order() -> u16 {
-        Self::Q
-    }
+    ghost laws = { all_laws bits_laws };
 
     fn add(a: u16, b: u16) -> u16 {
         (a % Self::Q) ^ (b % Self::Q)

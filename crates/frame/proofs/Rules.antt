@@ -1,12 +1,14 @@
 -- Contents without a flaw are proper ones.
-use Rattle.std.proofs.Common.{◌≡◌, ℕ, ◌+◌, ◌-◌, ◌<◌, Bool, true, false, cond, ◌&&◌, eqb, ltb, leb, List, length, get_or, drop, Some, None, sym, refl, ap, ◌∙◌, inl, inr, arith}
+use Rattle.std.proofs.Common.{◌≡◌, ℕ, ◌+◌, ◌-◌, ◌<◌, Bool, true, false, cond, ◌&&◌, eqb, ltb, leb, List, length, get_or, drop, Some, None, Option, Ok, Err, sym, refl, ap, ◌∙◌, inl, inr, arith}
 use Rattle.std.proofs.lemmas.List.{get_or_past, get_or-drop, length-drop}
 use Rattle.std.proofs.lemmas.Bool.{and_parts, and_from, cond-true, leb-true, le-leb, ltb-true, lt-ltb, eqb-true, eq-eqb, cases_lt}
 use Rattle.refusal.specs.declared.Refusal.TheVariants.{BadWidth, BadCode, StraySlot}
 use Rattle.carried.specs.Carries.{Under}
 use Rattle.frame.specs.declared.data.Data.{Data}
 use Rattle.frame.specs.DataFrame.{every, fits_stream_lem, codes_only_lem, none_stray_lem, flaw}
+use Rattle.frame.specs.Head.{verdict}
 use Rattle.frame.specs.Proper.{Proper}
+use Rattle.refusal.specs.declared.Refusal.{Refusal}
 use Rattle.frame.proofs.Every.{every-at, every-from}
 
 -- the three tests that contents without a flaw pass
@@ -47,3 +49,9 @@ flawless q w d p =
     let codes = and_from _ _ (below-q d.slots p.slot_codes) (below-q d.symbols p.symbol_codes) in
     let none = every-from (λ x. eqb x 0) (drop d.width d.slots) (λ k h. eq-eqb _ _ (get_or-drop d.width d.slots k 0 ∙ p.none_past (d.width + k) (omega arith))) in
     cond-true _ _ _ fits ∙ cond-true _ _ _ codes ∙ cond-true _ _ _ none
+
+-- contents that are refused are not proper
+pub refused : (q w : ℕ) (d : Data) (x : Refusal) → verdict (flaw q w d) (tt {0}) ≡ Err x → Proper q w d → ⊥
+refused q w d x e p =
+    let none : verdict (flaw q w d) (tt {0}) ≡ Ok tt = ap (λ (o : Option Refusal). verdict o (tt {0})) (flawless q w d p) in
+    let z : ◌≡◌ {A = ℕ} 0 1 = cc in omega arith
