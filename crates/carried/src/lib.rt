@@ -37,8 +37,8 @@ pub trait Carried: Field {
     fn pack(codes: &[u16], bytes: &mut [u8])
         ensures { bytes.new ≡ packed carries (length bytes.old) codes.now }
     {
-        for k in 0..bytes.len() {
-            bytes[k] = Self::byte(codes, k);
+        for (k, byte) in bytes.iter_mut().enumerate() {
+            *byte = Self::byte(codes, k);
         }
     }
 
@@ -46,8 +46,8 @@ pub trait Carried: Field {
     fn unpack(bytes: &[u8], codes: &mut [u16])
         ensures { codes.new ≡ unpacked carries (length codes.old) bytes.now }
     {
-        for i in 0..codes.len() {
-            codes[i] = Self::code(bytes, i);
+        for (i, code) in codes.iter_mut().enumerate() {
+            *code = Self::code(bytes, i);
         }
     }
 
@@ -62,12 +62,12 @@ pub trait Carried: Field {
 fn code_at(codes: &[u16], i: usize) -> u16
     ensures { result ≡ slice_index codes.now i }
 {
-    if i < codes.len() { codes[i] } else { 0 }
+    codes.get(i).copied().unwrap_or(0)
 }
 
 // Byte i, or 0 past the end.
 fn byte_at(bytes: &[u8], i: usize) -> u8
     ensures { result ≡ slice_index bytes.now i }
 {
-    if i < bytes.len() { bytes[i] } else { 0 }
+    bytes.get(i).copied().unwrap_or(0)
 }

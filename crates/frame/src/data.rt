@@ -1,11 +1,12 @@
 //! Data frames as bytes.
-ghost use Rattle.std.specs.Prelude.{◌≡◌, ◌≤◌, length, take, drop, IfOk, Ok, OnErr, OnOk, nat_eq, nat_lt};
+ghost use Rattle.std.specs.Prelude.{◌≡◌, ◌≤◌, length, take, drop, IfOk, Ok, OnErr, OnOk};
 ghost use Rattle.frame.specs.Head.{verdict};
-ghost use Rattle.frame.specs.DataFrame.{bytes_for, codes_only_lem, contents_by, every, fits_stream_lem, flaw, frame_of, none_stray_lem, reading, writing};
+ghost use Rattle.frame.specs.DataFrame.{bytes_for, codes_only_lem, contents_by, fits_stream_lem, flaw, frame_of, none_stray_lem, reading, writing};
 ghost use Rattle.frame.specs.Proper.{Proper};
 
 use super::{STREAM, SYMBOLS, WINDOW, misfit};
 use carried::Carried;
+use field::{all_below, all_zero};
 use refusal::Refusal;
 
 /// What a data frame says: slot i holds the coefficient of packet base + i, and every other coefficient is 0.
@@ -19,20 +20,6 @@ pub struct Data {
 
 // Kind, base and width.
 const HEAD: usize = 6;
-
-// Whether every number is below q.
-fn all_below(codes: &[u16], q: u16) -> bool
-    ensures { result ≡ every (λ x. nat_lt x q) codes.now }
-{
-    field::all_below(codes, q)
-}
-
-// Whether every number is 0.
-fn all_zero(codes: &[u16]) -> bool
-    ensures { result ≡ every (λ x. nat_eq x 0) codes.now }
-{
-    field::all_zero(codes)
-}
 
 // How many bytes the slots take: their share of the body.
 fn slot_bytes<C: Carried>() -> usize
