@@ -5,6 +5,7 @@ ghost use Rattle.field.specs.BitsLaws.{bits_laws};
 ghost use Rattle.field.specs.Remainders.{all_laws};
 
 use super::Field;
+use super::binary::sum;
 
 pub struct Bits;
 
@@ -20,7 +21,7 @@ impl Field for Bits {
     ghost laws = { all_laws bits_laws };
 
     fn add(a: u16, b: u16) -> u16 {
-        (a % Self::Q) ^ (b % Self::Q)
+        sum::<{ Self::Q }>(a, b)
     }
 
     // Every code is its own negative.
@@ -33,6 +34,6 @@ impl Field for Bits {
     }
 
     fn inverse(a: u16) -> Option<u16> {
-        if a % Self::Q == 0 { None } else { Some(1) }
+        (a % Self::Q != 0).then_some(1)
     }
 }

@@ -11,6 +11,7 @@ mod logarithms;
 mod powers;
 
 use super::Field;
+use super::binary::sum;
 use logarithms::logarithm;
 use powers::power;
 
@@ -28,7 +29,7 @@ impl Field for Bytes {
     ghost laws = { all_laws bytes_laws };
 
     fn add(a: u16, b: u16) -> u16 {
-        (a % Self::Q) ^ (b % Self::Q)
+        sum::<{ Self::Q }>(a, b)
     }
 
     // Every code is its own negative.

@@ -8,6 +8,7 @@
 ghost use Rattle.std.specs.Prelude.{◌≡◌, ℕ};
 ghost use Rattle.field.specs.Field.{Means, Laws, plus, minus, times, inverse};
 
+mod binary;
 mod bits;
 mod bytes;
 mod lists;

@@ -40,6 +40,7 @@ impl Field for Residues {
             return None;
         }
         let mut power = 1;
+        // A loop, since a fold would carry both numbers of a turn in a pair and be no plainer.
         for _turn in 0..8u8 {
             power = Self::mul(power, square);
             square = Self::mul(square, square);
