@@ -1,8 +1,6 @@
 -- A loop's turn, for the loops of specs/Loops.
-use Rattle.std.proofs.Common.{◌≡◌, ℕ, zero, suc, ◌+◌, ◌<◌, Bool, true, false, MatchBool, List, length, get_or, Some, None, sym, refl, ap, ◌∙◌, ⊎_elim, zero-add, add-one, arith}
+use Rattle.std.proofs.Common.{◌≡◌, ℕ, zero, suc, ◌+◌, ◌<◌, Bool, true, false, Some, None, sym, refl, ap, ◌∙◌, ⊎_elim, add-one, arith}
 use Rattle.std.proofs.lemmas.Bool.{and_from, and_left, and_right, cases_eq}
-use Rattle.std.proofs.lemmas.List.FromFn.{length-enumerate_from, get_or-enumerate_from}
-use Rattle.std.specs.List.{enumerate_from, AllWithin, HoldsAt}
 use Rattle.elimination.specs.Loops.{turns, seek, every}
 
 pub turns-none : {A : Type 0} (f : ℕ → A → A) (a : A) → a ≡ turns f a 0
@@ -40,33 +38,11 @@ pub every_more : (p : ℕ → Bool) (n : ℕ) → every p n ≡ true → p n ≡
 unfolding every
 every_more p n e h = rw add-one (and_from _ _ e h)
 
-pub every-each : (p : ℕ → Bool) (n : ℕ) → ((k : ℕ) → k < n → p k ≡ true) → every p n ≡ true
-unfolding every
-every-each p zero h = refl
-every-each p (suc n) h = and_from _ _ (every-each p n (λ k l. h k (omega arith))) (h n (omega arith))
-
 pub every_not : (p : ℕ → Bool) (k n : ℕ) → k < n → p k ≡ false → every p n ≡ false
 unfolding every
 every_not p k zero l h = absurd (omega arith)
 every_not p k (suc n) l h =
     ⊎_elim (λ e. and_right _ _ (rw e at h)) (λ ne. and_left _ _ (every_not p k n (omega arith) h)) (cases_eq k n)
-
--- the test p of each number of a list with its place, as a test of the places below n
-module _ (p : ℕ → ℕ → Bool) (xs : List ℕ) (n : ℕ) (long : length xs ≡ n) where
-  abbrev placed : List (ℕ × ℕ)
-  placed = enumerate_from 0 xs
-
-  at_place : (k : ℕ) → k < n → (b : Bool) → p (get_or placed k (0, 0)).0 (get_or placed k (0, 0)).1 ≡ b → p k (get_or xs k 0) ≡ b
-  at_place k l b h =
-      let there : get_or placed k (0, 0) ≡ (0 + k, get_or xs k 0) = get_or-enumerate_from 0 xs k (0, 0) (omega arith) in
-      rw zero-add at (rw there at h)
-
-  pub every-placed : (b : Bool) → MatchBool b (AllWithin (λ (q : ℕ × ℕ). p q.0 q.1 ≡ true) placed 0 (length placed)) ((k : ℕ) × (k < length placed) × HoldsAt (λ (q : ℕ × ℕ). p q.0 q.1 ≡ false) placed k) → b ≡ every (λ k. p k (get_or xs k 0)) n
-  every-placed true h =
-      sym (every-each _ n (λ k l. at_place k l true (h k (0, 0) (omega arith) (omega (arith, length-enumerate_from 0 xs)))))
-  every-placed false h =
-      let l : h.0 < n = omega (arith, h.1, length-enumerate_from 0 xs) in
-      sym (every_not _ h.0 n l (at_place h.0 l false (h.2 (0, 0))))
 
 pub every-all : (p : ℕ → Bool) (k n : ℕ) → k ≡ n → every p k ≡ true → true ≡ every p n
 every-all p k n e h = sym (rw e at h)

@@ -1,13 +1,25 @@
-use Rattle.std.proofs.Common.{◌≡◌, ℕ, true, false, ◌==◌, ◌||◌, rules, tests, arith}
-use Rattle.std.proofs.lemmas.Iterator.{cases_from_all, YieldsList-from_slice}
-use Rattle.std.proofs.lemmas.Iterator.Consumers.{YieldsList-from_enumerate}
-use Rattle.elimination.proofs.Turns.{every-placed}
+use Rattle.std.proofs.Common.{sym, arith}
+use Rattle.std.proofs.lemmas.Bool.{eq-eqb, ne_eqb, or_from, or_left, or_right}
+use Rattle.elimination.proofs.Turns.{every-none, every_more, every_not, every-all}
+use Rattle.elimination.specs.Rows.{zero_beside}
 use Rattle.elimination.proofs.row.Row.is_unit.Goals as goal
+use Rattle.elimination.proofs.row.Row.is_unit.Goals.{else-i-at-via-then-i-at+else-slot-ne0, else-i-at-via-else-i-at}
+
+pub returns-then-slot-ne0 : goal.returns-then-slot-ne0
+returns-then-slot-ne0 c =
+    sym (every_not (zero_beside c.args.at c.args.self.now) c.loop-i.i 32 c.loop-i-test.true
+    (or_from _ _ (ne_eqb _ _ c.if-i-at.true) (ne_eqb _ _ c.if-slot-ne0.true)))
+
+pub loop-i-init : goal.loop-i-init
+loop-i-init c = every-none _
+
+pub loop-i-preserved : goal.loop-i-preserved
+loop-i-preserved c =
+    every_more (zero_beside c.args.at c.args.self.now) c.loop-i.i c.loop-i.invariant
+    (elim c.else-i-at.branch [
+      | else-i-at-via-then-i-at+else-slot-ne0 w ↦ or_right _ _ (eq-eqb _ _ w.if-slot-ne0.false)
+      | else-i-at-via-else-i-at w ↦ or_left _ _ (eq-eqb _ _ w.if-i-at.false)
+    ])
 
 pub returns : goal.returns
-returns c =
-    let slots = c.args.self.now.slots in
-    let p = λ (k x : ℕ). k == c.args.at || x == 0 in
-    every-placed p slots 32 (omega arith) _
-    (cases_from_all _ _ _ (λ (q : ℕ × ℕ). p q.0 q.1 ≡ true) (λ (q : ℕ × ℕ). p q.0 q.1 ≡ false) c.all.ensures.ran
-    (YieldsList-from_enumerate (YieldsList-from_slice slots cc) (cc)) (λ x q k. search (rules, tests)) (λ x q k. search (rules, tests)))
+returns c = every-all (zero_beside c.args.at c.args.self.now) c.loop-i.i 32 (omega arith) c.loop-i.invariant
