@@ -62,7 +62,7 @@ after : {S : Type 0} → Draws S → S → ℕ → ℕ → ℕ → S
 after d x q n zero = x
 after d x q n (suc i) = after d (d.next x q n) q n i
 
-run_long : {S : Type 0} (d : Draws S) (x : S) (q n k : ℕ) → length (run d x q n k) ≡ k
+pub run_long : {S : Type 0} (d : Draws S) (x : S) (q n k : ℕ) → length (run d x q n k) ≡ k
 unfolding run
 run_long d x q n zero = refl
 run_long d x q n (suc k) = ap suc (run_long d (d.next x q n) q n k)
@@ -74,7 +74,7 @@ run_at d x q n (suc k) zero h = refl
 run_at d x q n (suc k) (suc i) h = run_at d (d.next x q n) q n k i (omega arith)
 
 -- the row of some slots is their row from number 0 on
-row_from_0 : row_at 0 ≡ row
+pub row_from_0 : row_at 0 ≡ row
 row_from_0 = λ t slots k. row-slot_zero slots k t
 
 module _ {S : Type 0} (w : ℕ) (turn : S → Turn) (f : S → ℕ → ℕ → ℕ) (next : S → ℕ → ℕ → S)
