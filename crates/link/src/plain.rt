@@ -11,10 +11,13 @@ use super::Link;
 use super::stored::{LIMIT, Stored};
 use refusal::Refusal;
 
+// How many frames there is room for.
+const ROOM: usize = 16;
+
 /// A queue of 16 frames, in a ring. A frame that finds it full or is over 400 bytes is lost.
 #[derive(Clone, Copy)]
 pub struct PlainLink {
-    frames: [Stored; 16],
+    frames: [Stored; ROOM],
     first: usize,
     count: usize,
 }
@@ -26,19 +29,10 @@ impl PlainLink {
         ensures queue { queued 400 result ≡ [] }
     {
         PlainLink {
-            frames: [Stored::empty(); 16],
+            frames: [Stored::empty(); ROOM],
             first: 0,
             count: 0,
         }
-    }
-
-    // How many frames there is room for.
-    fn room(&self) -> usize
-        ensures whole { result ≡ length self.now.frames }
-        ensures size { result ≡ 16 }
-    {
-        let frames: &[Stored] = &self.frames;
-        frames.len()
     }
 
     // Where entry i lies. The first place counts modulo the room, so that no state is out of bounds.
@@ -47,8 +41,7 @@ impl PlainLink {
         ensures place { result ≡ place_of self.now i }
         ensures within { result < 16 }
     {
-        let room = self.room();
-        (self.first % room + i) % room
+        (self.first % ROOM + i) % ROOM
     }
 
     /// Puts a frame, if there is one, at the end of the queue, unless that is full.
@@ -56,9 +49,8 @@ impl PlainLink {
         ensures exact { self.new ≡ pushed_by self.old (option_to_list frame) }
         ensures room { length self.old.frames ≡ 16 }
     {
-        let room = self.room();
         if let Some(frame) = frame
-            && self.count < room
+            && self.count < ROOM
         {
             let place = self.place(self.count);
             self.frames[place] = frame;
