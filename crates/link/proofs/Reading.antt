@@ -2,7 +2,7 @@
 use Rattle.std.proofs.Common.{◌≡◌, ℕ, zero, suc, ◌+◌, ◌-◌, ◌<◌, ◌≤◌, true, false, Bool, cond, ◌&&◌, ◌||◌, eqb, List, [], ◌∷◌, ◌++◌, length, map, get_or, set, take, drop, replicate, Ok, Err, sym, refl, ap, ap₂, ◌∙◌, inl, inr, le_of_suc-le-suc, not-suc-le-zero, arith, length-drop, take_all}
 use Rattle.std.proofs.lemmas.List.{at_drop_more, at_drop_all, map_more, take_more_set, drop-set-lt, take-append-drop, length-replicate}
 use Rattle.std.proofs.lemmas.Grind.{drop_more_same}
-use Rattle.std.proofs.lemmas.Bool.{and_parts, or_cases, both_ways, cond_both, eqb-true, le-leb}
+use Rattle.std.proofs.lemmas.Bool.{and_parts, or_cases, both_ways, cond_both, eqb-true, eqb-false, le-leb}
 use Rattle.refusal.specs.declared.Refusal.TheVariants.{BadScript}
 use Rattle.link.specs.declared.letter.Letter.{Letter}
 use Rattle.link.specs.declared.letter.Letter.TheVariants.{Keep, Lose, Double, Hold}
@@ -70,6 +70,9 @@ module _ (cs : List ℕ) (i : ℕ) (left : all_known (drop i cs) ≡ all_known c
 
   pub all_known-read : length cs ≤ i → all_known cs ≡ true
   all_known-read h = sym left ∙ at_drop_all all_known cs i h
+
+pub not-empty : (cs : List ℕ) → eqb (length cs) 0 ≡ false → 1 ≤ length cs
+not-empty cs e = omega (arith, eqb-false (length cs) 0 e)
 
 pub proper-script : (room : ℕ) (cs : List ℕ) → 1 ≤ length cs → length cs ≤ room → all_known cs ≡ true → proper room cs ≡ true
 proper-script room cs some few all = ap₂ ◌&&◌ (le-leb 1 (length cs) some) (ap₂ ◌&&◌ (le-leb (length cs) room few) all)

@@ -17,6 +17,7 @@ const ROOM: usize = 16;
 /// A queue of 16 frames, in a ring. A frame that finds it full or is over 400 bytes is lost.
 #[derive(Clone, Copy)]
 pub struct PlainLink {
+    // A ring in an array: a put refuses nothing, so no memory is asked for.
     frames: [Stored; ROOM],
     first: usize,
     count: usize,
@@ -89,12 +90,12 @@ impl Link for PlainLink {
         ensures exact { record { answer = result; state = self.new; buffer = buffer.new } ≡ taken 400 (plain 400) self.old buffer.old }
         ensures queue { queued 400 self.new ≡ (if nat_lt (length buffer.old) 400 then queued 400 self.old else drop 1 (queued 400 self.old)) }
     {
-        if buffer.len() < LIMIT {
+        let Some(start) = buffer.first_chunk_mut::<LIMIT>() else {
             return Err(Refusal::ShortBuffer);
-        }
+        };
         let Some(frame) = self.pop() else {
             return Ok(None);
         };
-        Ok(Some(frame.write(buffer)))
+        Ok(Some(frame.write(start)))
     }
 }

@@ -12,7 +12,7 @@ const MOST: usize = 64;
 /// Letters that are read round and round.
 #[derive(Clone, Copy)]
 pub(crate) struct Script {
-    // An array, of which the letters up to the place `last` count: no memory is asked for.
+    // An array, of which the letters up to the place `last` count: so a link is Copy, and asks for no memory.
     letters: [Letter; MOST],
     last: usize,
     at: usize,
@@ -23,8 +23,7 @@ impl Script {
         ensures exact { result ≡ (if proper 64 script.now then Ok (opened 64 script.now) else Err BadScript) }
         ensures rounds { IfOk result (Rounds script.now) }
     {
-        let length = script.len();
-        if length < 1 || length > MOST {
+        if script.is_empty() || script.len() > MOST {
             return Err(Refusal::BadScript);
         }
         let mut letters = [Letter::Lose; MOST];
@@ -33,7 +32,7 @@ impl Script {
         }
         Ok(Script {
             letters,
-            last: length - 1,
+            last: script.len() - 1,
             at: 0,
         })
     }

@@ -5,7 +5,7 @@ use Rattle.std.proofs.lemmas.Bool.{cond-true}
 use Rattle.link.specs.declared.letter.Letter.{Letter}
 use Rattle.link.specs.declared.script.Script.{Script}
 use Rattle.link.specs.Script.{proper, opened, Rounds}
-use Rattle.link.proofs.Reading.{reads_on, all_read, all_known-read, proper-script}
+use Rattle.link.proofs.Reading.{not-empty, reads_on, all_read, all_known-read, proper-script}
 use Rattle.link.proofs.Rounds.{rounds}
 use Rattle.link.proofs.script.Script.new.Goals as goal
 
@@ -21,7 +21,7 @@ returns c =
     let so_far = c.loop-i.invariant in
     let all = all_known-read cs c.loop-i.i so_far.2 (omega arith) in
     let letters = all_read cs c.loop-i.i so_far.2 64 c.loop-i.letters so_far.0 so_far.1 (omega arith) in
-    let some : 1 ≤ length cs = omega arith in
+    let some = not-empty cs (sym c.if-is_empty.ensures) in
     let few : length cs ≤ 64 = omega arith in
     let opens = cond-true (proper 64 cs) (Ok (opened 64 cs)) (Err BadScript) (proper-script 64 cs some few all) in
     let read = ap (λ (ls : List Letter). Ok (record { letters = ls; last = length cs - 1; at = 0 })) letters in
