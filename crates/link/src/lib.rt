@@ -9,6 +9,7 @@ ghost use Rattle.link.specs.Link.{Carries, CarriesLaws, taken};
 
 use refusal::Refusal;
 
+mod letter;
 mod plain;
 mod script;
 mod scripted;
