@@ -1,9 +1,10 @@
 pub mod Carried
 pub mod Counts
-pub mod Digits
+pub mod Numbers
+pub mod Each
 pub mod Beside
 pub mod Fills
-pub mod Spelled
+pub mod Fronts
 pub mod Loads
 pub mod Spellings
 pub mod Steps

@@ -5,6 +5,7 @@
 //! then shows the file: `Filling` has no `show`, and `Whole` no `add`.
 #![tactic(auto)]
 
+mod digits;
 mod filling;
 mod packets;
 mod spelling;

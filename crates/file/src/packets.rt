@@ -3,8 +3,8 @@ ghost use Rattle.std.specs.Prelude.{◌≡◌, ℕ, ◌+◌, ◌*◌, ◌<◌, �
 ghost use Rattle.refusal.specs.declared.Refusal.TheVariants.{LongFile};
 ghost use Rattle.std.specs.Int.Digits.{AllBelowBase};
 ghost use Rattle.file.specs.Filled.{File};
-ghost use Rattle.file.specs.Packets.{loaded, packets, packet_of};
-ghost use Rattle.file.specs.Spelling.{spelling_of};
+ghost use Rattle.file.specs.Packets.{loaded, packets, packet_of, symbol_of};
+ghost use Rattle.file.specs.Spelling.{room, spelling_of};
 
 use super::spelling::Spelling;
 use super::{FILE_MOST, SYMBOLS};
@@ -14,10 +14,10 @@ use refusal::Refusal;
 /// How many packets a file of this many bytes takes: the least number that holds the length and the file.
 pub fn packet_count<F: Field>(size: u32) -> u32
     ensures exact { result ≡ packets (spelling_of F.means.q) size }
-    ensures enough { 4 + size ≤ (spelling_of F.means.q).room * result }
-    ensures least { (n : ℕ) → 4 + size ≤ (spelling_of F.means.q).room * n → result ≤ n }
+    ensures enough { 4 + size ≤ room (spelling_of F.means.q) * result }
+    ensures least { (n : ℕ) → 4 + size ≤ room (spelling_of F.means.q) * n → result ≤ n }
 {
-    (size as usize + 4).div_ceil(Spelling::of::<F>().room) as u32
+    (size as usize + 4).div_ceil(Spelling::of::<F>().room()) as u32
 }
 
 /// Packet `number` of the file, which is zeros where the file ended before it.
@@ -29,17 +29,21 @@ pub fn packet<F: Field>(file: &[u8], number: u32) -> Result<[u16; 128], Refusal>
     if file.len() > FILE_MOST {
         return Err(Refusal::LongFile);
     }
-    let spelling = Spelling::of::<F>();
-    let start = spelling.room * number as usize;
     let mut symbols = [0; SYMBOLS];
-    for i in 0..spelling.room {
-        let at = spelling.digits * i;
-        spelling.spell(
-            held(file, start + i),
-            &mut symbols[at..at + spelling.digits],
-        );
+    for (i, symbol) in symbols.iter_mut().enumerate() {
+        *symbol = symbol_at::<F>(file, number, i);
     }
     Ok(symbols)
+}
+
+// Symbol i of packet `number`.
+fn symbol_at<F: Field>(file: &[u8], number: u32, i: usize) -> u16
+    requires { (length file.now ≤ 16000) × (i < 128) }
+    ensures { result ≡ symbol_of (spelling_of F.means.q) file.now number i }
+{
+    let spelling = Spelling::of::<F>();
+    let at = spelling.room() * number as usize + i / spelling.digits();
+    spelling.symbol(held(file, at), i % spelling.digits())
 }
 
 // Byte i of what the packets hold.
@@ -51,8 +55,5 @@ fn held(file: &[u8], i: usize) -> u8
     if i < length.len() {
         return length[i];
     }
-    match file.get(i - length.len()) {
-        Some(byte) => *byte,
-        None => 0,
-    }
+    file.get(i - length.len()).copied().unwrap_or(0)
 }

@@ -1,7 +1,6 @@
 use Rattle.std.proofs.Common.{ℕ, take, ap, ◌∙◌, arith}
 use Rattle.file.specs.Spelling.{spelling_of}
 use Rattle.file.proofs.Fills.{begins}
-use Rattle.file.proofs.Spellings.{known}
 use Rattle.file.proofs.whole.Whole.show.Goals as goal
 
 pub returns : goal.returns
@@ -11,5 +10,5 @@ returns c =
     let e = ap (λ (n : ℕ). take n buffer) c.length.ensures in
     record {
       exact = (omega arith, e);
-      shows = λ q file k taken filled all. e ∙ begins (spelling_of q) (known q) file k taken size buffer filled all (omega (arith, c.args.self.now.short));
+      shows = λ q file k taken filled all. e ∙ begins (spelling_of q) file k taken size buffer filled all (omega (arith, c.args.self.now.short));
     }
