@@ -87,7 +87,7 @@ impl Row {
     pub(crate) fn is_unit(&self, at: usize) -> bool
         ensures { result ≡ unit_at 32 at self.now }
     {
-        // A loop, since a closure here (`all`) makes the callers copy packets and table: 4% of decoding a window of bits.
+        // No `all`: its closure makes the callers copy packets and table, which takes 4% of decoding a window of bits.
         for (i, slot) in self.slots.iter().enumerate() {
             if i != at && *slot != 0 {
                 return false;

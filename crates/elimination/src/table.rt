@@ -12,6 +12,7 @@ use field::Field;
 /// Rows in reduced form: the one that begins at packet k stands at the place k % 32.
 #[derive(Drop)]
 pub struct Table {
+    // An array, and no map or list: no memory is asked for below the programs.
     rows: [Option<Row>; WINDOW],
 }
 

@@ -13,6 +13,8 @@ ghost use Rattle.exports.specs.Decoding.{gathered, unloaded, decoded};
 use elimination::{Row, SYMBOLS, Table, WINDOW, subtract};
 use field::{Bits, Bytes, Field, Residues};
 
+// A function for each field, since C knows no generic ones, and 0 for no inverse, since it knows no `Option`.
+
 /// The product in the field of bytes.
 #[unsafe(no_mangle)]
 pub extern "C" fn lambjade_bytes_mul(a: u16, b: u16) -> u16
@@ -70,6 +72,7 @@ pub extern "C" fn lambjade_residues_subtract(target: &mut Row, factor: u16, othe
 }
 
 /// The first 32 packets of a stream.
+// A struct around one array, since C hands over no array itself.
 #[repr(C)]
 pub struct Packets {
     pub packets: [[u16; SYMBOLS]; WINDOW],

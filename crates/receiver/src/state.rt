@@ -41,6 +41,7 @@ pub(crate) struct State {
     // Rows of the 32 packets from the next one on.
     table: Table,
     // The last 32 released packets: packet k stands at the place k % 32.
+    // An array, and no map or queue: no memory is asked for below the programs.
     kept: [[u16; SYMBOLS]; WINDOW],
 }
 
@@ -194,6 +195,7 @@ impl State {
         if numbers.len() < WINDOW {
             return Err(Refusal::ShortBuffer);
         }
+        // By its place, since nothing is known of what is written through a zip.
         let mut count = 0;
         for k in (self.released..self.top).filter(|k| !self.sees(*k)) {
             numbers[count] = k;

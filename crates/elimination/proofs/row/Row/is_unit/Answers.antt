@@ -1,6 +1,6 @@
-use Rattle.std.proofs.Common.{sym, arith}
+use Rattle.std.proofs.Common.{sym}
 use Rattle.std.proofs.lemmas.Bool.{eq-eqb, ne_eqb, or_from, or_left, or_right}
-use Rattle.elimination.proofs.Turns.{every-none, every_more, every_not, every-all}
+use Rattle.elimination.proofs.Turns.{every-none, every_more, every_not}
 use Rattle.elimination.specs.Rows.{zero_beside}
 use Rattle.elimination.proofs.row.Row.is_unit.Goals as goal
 use Rattle.elimination.proofs.row.Row.is_unit.Goals.{else-i-at-via-then-i-at+else-slot-ne0, else-i-at-via-else-i-at}
@@ -20,6 +20,3 @@ loop-i-preserved c =
       | else-i-at-via-then-i-at+else-slot-ne0 w ↦ or_right _ _ (eq-eqb _ _ w.if-slot-ne0.false)
       | else-i-at-via-else-i-at w ↦ or_left _ _ (eq-eqb _ _ w.if-i-at.false)
     ])
-
-pub returns : goal.returns
-returns c = every-all (zero_beside c.args.at c.args.self.now) c.loop-i.i 32 (omega arith) c.loop-i.invariant
