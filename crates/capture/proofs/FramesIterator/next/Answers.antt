@@ -10,13 +10,11 @@ pub returns-in_default-split_at_checked : goal.returns-in_default-split_at_check
 unfolding captured
 returns-in_default-split_at_checked c =
     let step = cuts c.args.self.now.rest.now c.from_be_bytes-length.result c.in-len2-up.len_at_least c.from_be_bytes-length.ensures c.in_default-split_at_checked.ensures.cases in
-    let shorter = ap length step in
-    record { steps = step; goes = search rules }
+    let shorter = ap length step in search rules
 
 pub returns : goal.returns
 unfolding captured
 returns c =
     let split = c.in-Some.ensures.cases in
     let step = gives c.args.self.now.rest.now c.from_be_bytes-length.result c.in-len2-up.len_at_least c.from_be_bytes-length.ensures split.0 c.in-Some.frame.now c.in-Some.rest.now split.1 split.2 in
-    let shorter = ap length step in
-    record { steps = step; goes = search rules }
+    let shorter = ap length step in search rules
