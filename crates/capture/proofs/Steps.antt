@@ -1,8 +1,9 @@
 -- What is left of a capture, frame by frame.
-use Rattle.std.proofs.Common.{◌≡◌, ℕ, zero, suc, ◌+◌, ◌-◌, ◌*◌, ◌<◌, ◌≤◌, cond, leb, List, [], ◌∷◌, length, get_or, take, drop, Ok, Err, sym, refl, ap, ap₂, ◌∙◌, not-suc-le-zero, arith, length-drop}
+use Rattle.std.proofs.Common.{◌≡◌, ℕ, zero, suc, ◌+◌, ◌-◌, ◌*◌, ◌/◌, ◌%◌, ◌<◌, ◌≤◌, cond, leb, List, [], ◌∷◌, ◌++◌, map, length, get_or, take, drop, Ok, Err, sym, refl, ap, ap₂, ◌∙◌, not-suc-le-zero, arith, length-append, length-drop}
 use Rattle.std.proofs.lemmas.Bool.{cond-true, cond-false, le-leb, lt-leb}
-use Rattle.std.proofs.lemmas.List.{take_rest}
-use Rattle.capture.specs.Frames.{frames, captured}
+use Rattle.std.proofs.lemmas.List.{take_at, take_rest, drop_at}
+use Rattle.std.proofs.lemmas.Nat.{div-add-mod'}
+use Rattle.capture.specs.Frames.{frames, captured, laid}
 
 -- more turns than bytes give no more frames
 enough : (m n : ℕ) (bs : List ℕ) → length bs ≤ m → length bs ≤ n → frames m bs ≡ frames n bs
@@ -50,3 +51,14 @@ gives (high ∷ (low ∷ bs)) k some is h f rest front back =
     cond-true (leb (256 * high + low) (length bs)) _ _ (le-leb (256 * high + low) (length bs) (omega (arith, long, is)))
     ∙ ap₂ (λ x xs. Ok x ∷ frames (suc (length bs)) xs) frame others
     ∙ ap (λ fs. Ok f ∷ fs) (enough (suc (length bs)) (length rest) rest (omega (arith, ap length others, length-drop (256 * high + low) bs)) (omega arith))
+
+pub come_back : (fs : List (List ℕ)) → captured (laid fs) ≡ map Ok fs
+come_back [] = ends [] (omega arith)
+come_back (f ∷ fs) =
+    let n = length f in
+    let rest = f ++ laid fs in
+    let behind : tail (n / 256 ∷ (n % 256 ∷ rest)) ≡ rest = take_rest (n / 256 ∷ (n % 256 ∷ rest)) 2 in
+    let long : length (tail (n / 256 ∷ (n % 256 ∷ rest))) ≡ n + length (laid fs) = ap length behind ∙ length-append f (laid fs) in
+    gives (n / 256 ∷ (n % 256 ∷ rest)) n (omega arith) (sym (div-add-mod' n 256)) (omega (arith, long)) f (laid fs)
+    (sym (ap (take n) behind ∙ take_at f (laid fs) n refl)) (sym (ap (drop n) behind ∙ drop_at f (laid fs) n refl))
+    ∙ ap (λ xs. Ok f ∷ xs) (come_back fs)

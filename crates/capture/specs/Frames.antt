@@ -1,5 +1,5 @@
 -- The frames in the bytes of a capture.
-use Rattle.std.specs.Prelude.{ℕ, zero, suc, ◌+◌, ◌*◌, cond, List, [], ◌∷◌, length, take, drop, Ok, Err, Result, nat_le}
+use Rattle.std.specs.Prelude.{◌≡◌, ℕ, zero, suc, ◌+◌, ◌*◌, ◌/◌, ◌%◌, cond, List, [], ◌∷◌, ◌++◌, map, length, take, drop, Ok, Err, Result, nat_le}
 use denote.Ref.{Bor}
 use Rattle.capture.specs.declared.CutShort.{CutShort}
 use Rattle.capture.specs.declared.Frames.{Frames}
@@ -20,6 +20,15 @@ frames (suc n) (high ∷ (low ∷ bs)) =
 -- all frames, of which there are no more than bytes
 unfoldable pub captured : List ℕ → List Frame
 captured bs = frames (length bs) bs
+
+-- frames end to end, each behind its length
+abbrev pub laid : List (List ℕ) → List ℕ
+laid [] = []
+laid (f ∷ fs) = length f / 256 ∷ (length f % 256 ∷ (f ++ laid fs))
+
+-- where the bytes are frames that were laid end to end, they are these frames and no others
+abbrev pub ComeBack : List ℕ → List Frame → Type 0
+ComeBack bs found = (fs : List (List ℕ)) → bs ≡ laid fs → found ≡ map Ok fs
 
 -- the frames that are still to come
 abbrev pub left : Frames → List Frame

@@ -2,7 +2,7 @@
 #![tactic(auto)]
 
 ghost use Rattle.std.specs.Prelude.{◌≡◌};
-ghost use Rattle.capture.specs.Frames.{captured, left};
+ghost use Rattle.capture.specs.Frames.{captured, left, ComeBack};
 
 use std::error::Error;
 use std::fmt;
@@ -29,7 +29,8 @@ pub struct Frames<'a> {
 impl<'a> Frames<'a> {
     /// The frames of these bytes.
     pub fn new(capture: &'a [u8]) -> Frames<'a>
-        ensures { left result ≡ captured capture.now }
+        ensures exact { left result ≡ captured capture.now }
+        ensures come_back { ComeBack capture.now (left result) }
     {
         Frames { rest: capture }
     }

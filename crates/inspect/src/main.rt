@@ -6,7 +6,7 @@
 use capture::Frames;
 use carried::Carried;
 use field::{Bits, Bytes, Residues};
-use frame::{Data, read_data, read_report};
+use frame::{read_data, read_report};
 use refusal::Refusal;
 use std::io;
 use std::io::Read;
@@ -35,12 +35,14 @@ fn show(rt: &impl Print, frame: &[u8]) -> io::Result<()> {
 
 fn show_data<C: Carried>(rt: &impl Print, frame: &[u8]) -> io::Result<()> {
     match read_data::<C>(frame) {
-        Ok(Data {
-            base,
-            width,
-            slots,
-            symbols,
-        }) => println!(rt; "base {base} width {width} slots {slots:?} symbols {symbols:?}"),
+        Ok(data) => println!(
+            rt;
+            "base {} width {} slots {:?} symbols {:?}",
+            data.base,
+            data.width,
+            data.slots,
+            data.symbols
+        ),
         Err(refusal) => show_refusal(rt, refusal),
     }
 }

@@ -4,7 +4,7 @@ use Rattle.std.proofs.lemmas.List.{get_or_append_left, get_or-append_right, leng
 use Rattle.std.proofs.lemmas.Bool.{and_parts, cases_eq, cond_both, eqb-true, eqb-false, ltb-true}
 use Rattle.refusal.specs.declared.Refusal.{Refusal}
 use Rattle.field.specs.Field.{Means}
-use Rattle.frame.specs.DataFrame.{every}
+use Rattle.field.specs.Lists.{every}
 use Rattle.frame.specs.ReportFrame.{reading_report}
 use Rattle.frame.proofs.Every.{every-at}
 use Rattle.algebra.specs.Frames.{Codes}

@@ -6,7 +6,8 @@ use Rattle.refusal.specs.declared.Refusal.TheVariants.{ShortBuffer, BadPacket, S
 use Rattle.field.specs.Field.{Means, times}
 use Rattle.carried.specs.Carries.{Carries}
 use Rattle.frame.specs.declared.data.Data.{Data}
-use Rattle.frame.specs.DataFrame.{every, frame_of}
+use Rattle.frame.specs.DataFrame.{frame_of}
+use Rattle.field.specs.Lists.{every}
 use Rattle.frame.specs.ReportFrame.{reading_report}
 use Rattle.algebra.specs.Streams.{sum}
 use Rattle.source.specs.Source.{Draws}
