@@ -18,7 +18,7 @@ impl Spelling {
     pub(crate) fn of<F: Field>() -> Spelling
         ensures { result ≡ spelling_of F.means.q }
     {
-        if F::order() < 256 {
+        if F::Q < 256 {
             Spelling::Bits
         } else {
             Spelling::Bytes
