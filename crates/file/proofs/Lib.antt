@@ -6,6 +6,7 @@ pub mod Beside
 pub mod Fills
 pub mod Fronts
 pub mod Loads
+pub mod Spelled
 pub mod Spellings
 pub mod Steps
 pub mod Writes

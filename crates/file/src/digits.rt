@@ -26,7 +26,7 @@ impl<'a, F: Field> Digits<'a, F> {
         let Some(symbols) = packet.as_array() else {
             return Err(Refusal::BadPacket);
         };
-        if !all_below(symbols, F::order()) {
+        if !all_below(symbols, F::Q) {
             return Err(Refusal::BadPacket);
         }
         if !all_below(symbols, Spelling::of::<F>().base()) {

@@ -3,7 +3,7 @@ ghost use Rattle.std.specs.Prelude.{◌≡◌, ℕ, ◌+◌, ◌*◌, ◌<◌, �
 ghost use Rattle.refusal.specs.declared.Refusal.TheVariants.{LongFile};
 ghost use Rattle.std.specs.Int.Digits.{AllBelowBase};
 ghost use Rattle.file.specs.Filled.{File};
-ghost use Rattle.file.specs.Packets.{loaded, packets, packet_of, symbol_of};
+ghost use Rattle.file.specs.Packets.{loaded, packets, packet_of};
 ghost use Rattle.file.specs.Spelling.{room, spelling_of};
 
 use super::spelling::Spelling;
@@ -29,21 +29,16 @@ pub fn packet<F: Field>(file: &[u8], number: u32) -> Result<[u16; 128], Refusal>
     if file.len() > FILE_MOST {
         return Err(Refusal::LongFile);
     }
+    let spelling = Spelling::of::<F>();
+    let digits = spelling.digits();
+    let start = spelling.room() * number as usize;
     let mut symbols = [0; SYMBOLS];
-    for (i, symbol) in symbols.iter_mut().enumerate() {
-        *symbol = symbol_at::<F>(file, number, i);
+    // By place: no proof knows what `chunks_exact_mut` wrote, and a loop over the symbols took bits 0.28 ms a file longer.
+    for i in 0..spelling.room() {
+        let at = digits * i;
+        spelling.spell(held(file, start + i), &mut symbols[at..at + digits]);
     }
     Ok(symbols)
-}
-
-// Symbol i of packet `number`.
-fn symbol_at<F: Field>(file: &[u8], number: u32, i: usize) -> u16
-    requires { (length file.now ≤ 16000) × (i < 128) }
-    ensures { result ≡ symbol_of (spelling_of F.means.q) file.now number i }
-{
-    let spelling = Spelling::of::<F>();
-    let at = spelling.room() * number as usize + i / spelling.digits();
-    spelling.symbol(held(file, at), i % spelling.digits())
 }
 
 // Byte i of what the packets hold.

@@ -2,8 +2,8 @@
 //!
 //! A symbol is a digit of a byte, and the highest digit comes first. In a field of order 256 or more one symbol is
 //! the whole byte; in any other a symbol is a bit.
-ghost use Rattle.std.specs.Prelude.{◌≡◌, ◌<◌};
-ghost use Rattle.file.specs.Spelling.{base, digit, digits, room, spelling_of};
+ghost use Rattle.std.specs.Prelude.{◌≡◌, ◌<◌, length};
+ghost use Rattle.file.specs.Spelling.{base, digit, digits, room, spelled, spelling_of};
 
 use field::Field;
 
@@ -18,7 +18,7 @@ impl Spelling {
     pub(crate) fn of<F: Field>() -> Spelling
         ensures { result ≡ spelling_of F.means.q }
     {
-        if F::order() < 256 {
+        if F::Q < 256 {
             Spelling::Bits
         } else {
             Spelling::Bytes
@@ -62,5 +62,14 @@ impl Spelling {
     {
         // Below a symbol's place there are bits, or nothing.
         (u16::from(byte) >> (self.digits() - 1 - place)) % self.base()
+    }
+    /// Writes the symbols that spell the byte.
+    pub(crate) fn spell(self, byte: u8, symbols: &mut [u16])
+        requires { length symbols.old ≡ digits self }
+        ensures { symbols.new ≡ spelled (base self) (digits self) byte }
+    {
+        for (place, symbol) in symbols.iter_mut().enumerate() {
+            *symbol = self.symbol(byte, place);
+        }
     }
 }
