@@ -1,7 +1,5 @@
-use Rattle.std.proofs.Common.{◌≡◌, length, ap, ◌∙◌, arith}
+use Rattle.std.proofs.Common.{ap, ◌∙◌}
 use Rattle.elimination.proofs.Turns.{turns-none, turns_more}
-use Rattle.elimination.specs.Loops.{turns}
-use Rattle.elimination.specs.Tables.{no_rows}
 use Rattle.exports.specs.Decoding.{gather_one}
 use Rattle.exports.proofs.gathered.Goals as goal
 
@@ -12,8 +10,3 @@ pub loop-row-preserved : goal.loop-row-preserved
 loop-row-preserved g c =
     turns_more (gather_one g.F.Field.means 32 c.args.rows.now) _ _ c.loop-row.table _ c.loop-row.invariant
     (ap (λ a. a.table) c.absorb.ensures.exact)
-
-pub returns : goal.returns
-returns g c =
-    let all : c.loop-row.row-index ≡ length c.args.rows.now = omega arith in
-    c.loop-row.invariant ∙ ap (turns (gather_one g.F.Field.means 32 c.args.rows.now) (no_rows 32)) all

@@ -1,8 +1,6 @@
-use Rattle.std.proofs.Common.{◌≡◌, ℕ, ◌+◌, ◌<◌, List, replicate, get_or, ap, ◌∙◌, arith}
+use Rattle.std.proofs.Common.{◌≡◌, ℕ, ◌+◌, ◌<◌, get_or, ap, ◌∙◌, arith}
 use Rattle.std.proofs.lemmas.List.{get_or-take}
 use Rattle.elimination.proofs.Turns.{turns-none, turns_more}
-use Rattle.elimination.specs.Loops.{turns}
-use Rattle.elimination.specs.declared.row.Row.{Row}
 use Rattle.receiver.specs.Alignment.{with_packet}
 use Rattle.receiver.proofs.state.State.align.Goals as goal
 
@@ -20,11 +18,3 @@ loop-i-preserved g c =
     turns_more f _ _ c.loop-i.row _ c.loop-i.invariant
     (c.enter.ensures ∙ ap (λ b. with_packet g.F.Field.means 32 c.args.self.now (b + i) (get_or part.result.now i 0) c.loop-i.row) c.base.ensures.exact
     ∙ ap (λ a. with_packet g.F.Field.means 32 c.args.self.now (d.base + i) a c.loop-i.row) read)
-
-pub returns : goal.returns
-returns g c =
-    let d = c.args.frame.now in
-    let f = λ (i : ℕ). with_packet g.F.Field.means 32 c.args.self.now (d.base + i) (get_or d.slots i 0) in
-    let first = λ (payload : List ℕ). let x : Row = record { slots = replicate 32 0; payload = payload } in x in
-    let all : c.loop-i.i ≡ d.width = omega (arith, c.coefficients-coefficient-items.ensures.long) in
-    c.loop-i.invariant ∙ ap (turns f (first c.symbols.result.now)) all ∙ ap (λ payload. turns f (first payload) d.width) c.symbols.ensures
