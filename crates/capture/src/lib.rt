@@ -1,7 +1,7 @@
 //! Captures: frames end to end, each behind its length in two bytes, the highest first.
 #![tactic(auto)]
 
-ghost use Rattle.std.specs.Prelude.{◌≡◌};
+ghost use Rattle.std.specs.Prelude.{◌≡◌, Some, codes};
 ghost use Rattle.capture.specs.Frames.{captured, left, ComeBack};
 
 use std::error::Error;
@@ -12,6 +12,8 @@ use std::fmt;
 pub struct CutShort;
 
 impl fmt::Display for CutShort {
+    ghost output = { λ _. Some (codes "cut short") };
+
     fn fmt<W: fmt::Write>(&self, f: &mut fmt::Formatter<W>) -> fmt::Result {
         f.write_str("cut short")
     }

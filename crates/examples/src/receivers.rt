@@ -2,6 +2,7 @@
 use carried::Carried;
 use field::{Bits, Bytes, Residues};
 use frame::{Data, FRAME_MOST, SYMBOLS, WINDOW, write_data};
+use receiver::Answer::{Fresh, Repeat};
 use receiver::{Answer, Receiver};
 use refusal::Refusal;
 use source::{Source, Woven};
@@ -83,29 +84,17 @@ fn woven_draws(rt: HostRuntime) -> Result<(), Fail> {
 #[test]
 fn residues_solved(rt: HostRuntime) -> Result<(), Fail> {
     let mut receiver = Receiver::<Residues>::new();
-    call(
-        &rt,
-        &mut receiver,
-        &data(0, &[1, 1], 5),
-        Ok(Answer::Fresh(0)),
-        &[],
-    );
+    call(&rt, &mut receiver, &data(0, &[1, 1], 5), Ok(Fresh(0)), &[]);
     check_report(&rt, &receiver, (0, 1), &[1])?;
     call(
         &rt,
         &mut receiver,
         &data(0, &[1, 2], 8),
-        Ok(Answer::Fresh(2)),
+        Ok(Fresh(2)),
         &[2, 3],
     );
     check_report(&rt, &receiver, (2, 2), &[])?;
-    call(
-        &rt,
-        &mut receiver,
-        &data(0, &[1, 1], 5),
-        Ok(Answer::Repeat),
-        &[],
-    );
+    call(&rt, &mut receiver, &data(0, &[1, 1], 5), Ok(Repeat), &[]);
     check_report(&rt, &receiver, (2, 2), &[])?;
     let refused = Err(Refusal::Contradiction);
     call(&rt, &mut receiver, &data(0, &[1, 1], 6), refused, &[]);
@@ -115,20 +104,14 @@ fn residues_solved(rt: HostRuntime) -> Result<(), Fail> {
 #[test]
 fn bytes_solved(rt: HostRuntime) -> Result<(), Fail> {
     let mut receiver = Receiver::<Bytes>::new();
-    call(
-        &rt,
-        &mut receiver,
-        &data(0, &[1, 1], 5),
-        Ok(Answer::Fresh(0)),
-        &[],
-    );
+    call(&rt, &mut receiver, &data(0, &[1, 1], 5), Ok(Fresh(0)), &[]);
     check_report(&rt, &receiver, (0, 1), &[1])?;
     let packets = [245, 240];
     call(
         &rt,
         &mut receiver,
         &data(0, &[1, 2], 8),
-        Ok(Answer::Fresh(2)),
+        Ok(Fresh(2)),
         &packets,
     );
     check_report(&rt, &receiver, (2, 2), &[])
@@ -141,7 +124,7 @@ fn one_missing(rt: HostRuntime) -> Result<(), Fail> {
         &rt,
         &mut receiver,
         &data(0, &[1, 1, 0], 1),
-        Ok(Answer::Fresh(0)),
+        Ok(Fresh(0)),
         &[],
     );
     check_report(&rt, &receiver, (0, 1), &[1, 2])?;
@@ -149,7 +132,7 @@ fn one_missing(rt: HostRuntime) -> Result<(), Fail> {
         &rt,
         &mut receiver,
         &data(0, &[0, 0, 1], 1),
-        Ok(Answer::Fresh(0)),
+        Ok(Fresh(0)),
         &[],
     );
     check_report(&rt, &receiver, (0, 1), &[1])
@@ -167,13 +150,7 @@ fn ahead(rt: HostRuntime) -> Result<(), Fail> {
         &[],
     );
     check_report(&rt, &receiver, (0, 0), &[])?;
-    call(
-        &rt,
-        &mut receiver,
-        &data(0, &row, 0),
-        Ok(Answer::Fresh(0)),
-        &[],
-    );
+    call(&rt, &mut receiver, &data(0, &row, 0), Ok(Fresh(0)), &[]);
     assert_eq!(rt; receiver.report(), (0, 1));
     assert_eq!(rt; Refusal::Ahead.number(), 17);
     Ok(())
@@ -182,10 +159,7 @@ fn ahead(rt: HostRuntime) -> Result<(), Fail> {
 // Packets 0 to 32, all 0, arrive one by one.
 fn arrive_singly(rt: &impl Abort, receiver: &mut Receiver<Bits>, numbers: &mut [u16]) {
     for k in 0..33u32 {
-        assert_eq!(rt;
-            arrive(receiver, &data(k, &[1], 0), numbers),
-            Ok(Answer::Fresh(1))
-        );
+        assert_eq!(rt; arrive(receiver, &data(k, &[1], 0), numbers), Ok(Fresh(1)));
     }
 }
 
@@ -193,13 +167,7 @@ fn arrive_singly(rt: &impl Abort, receiver: &mut Receiver<Bits>, numbers: &mut [
 fn late(rt: HostRuntime) -> Result<(), Fail> {
     let mut receiver = Receiver::<Bits>::new();
     arrive_singly(&rt, &mut receiver, &mut [0; SYMBOLS * WINDOW]);
-    call(
-        &rt,
-        &mut receiver,
-        &data(1, &[1], 0),
-        Ok(Answer::Repeat),
-        &[],
-    );
+    call(&rt, &mut receiver, &data(1, &[1], 0), Ok(Repeat), &[]);
     check_report(&rt, &receiver, (33, 33), &[])?;
     call(
         &rt,

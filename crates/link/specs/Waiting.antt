@@ -1,5 +1,5 @@
 -- Both links keep the laws of a link: no frame is made up.
-use Rattle.std.specs.Prelude.{◌≡◌, ℕ, zero, suc, ◌+◌, ◌≤◌, min, Bool, true, false, cond, ◌⊎◌, List, [], ◌∷◌, ◌++◌, map, length, drop, Some, None, Option, nat_le, nat_lt}
+use Rattle.std.specs.Prelude.{◌≡◌, ℕ, ◌≤◌, min, Bool, true, false, cond, ◌⊎◌, List, [], ◌∷◌, ◌++◌, length, drop, Some, None, Option, nat_le, nat_lt, slice_index_or}
 use mathlib.Core.List.Memᴰ
 use mathlib.Core.List.{Memᴰ}
 use Rattle.std.proofs.Common.{inl, inr, sym, ap, subst, arith, length-take}
@@ -14,7 +14,7 @@ use Rattle.link.specs.Link.{CarriesLaws}
 use Rattle.link.specs.OfPlain.{plain}
 use Rattle.link.specs.OfScripted.{Line, scripted}
 use Rattle.link.specs.Queue.{joined, joined_by, first_of, short}
-use Rattle.link.specs.Ring.{frame, queued, popped}
+use Rattle.link.specs.Ring.{frame, nothing, place_of, queued, popped}
 use Rattle.link.specs.Script.{holds, letter_of, through, holding}
 use Rattle.link.specs.Lines.{plain-put, scripted-put}
 use Rattle.link.specs.Rings.{queued-popped}
@@ -84,18 +84,12 @@ is-short limit f g = go (nat_le (length f) limit)
 frame-short : (limit : ℕ) (s : Stored) → length (frame limit s) ≤ limit
 frame-short limit s = omega (arith, length-take (min s.length limit) s.bytes)
 
-all_short : (limit : ℕ) (entry_at : ℕ → Stored) (a n : ℕ) (g : List ℕ) → Memᴰ g (map (λ i. frame limit (entry_at i)) (range_with_len a n)) → length g ≤ limit
-all_short limit entry_at a zero g i = absurd (Memᴰ.not-nil i)
-all_short limit entry_at a (suc n) g i = go (Memᴰ.cases_cons i) (all_short limit entry_at (a + 1) n g)
-  where
-    go : (g ≡ frame limit (entry_at a)) ⊎ Memᴰ g (map (λ i. frame limit (entry_at i)) (range_with_len (a + 1) n))
-        → (Memᴰ g (map (λ i. frame limit (entry_at i)) (range_with_len (a + 1) n)) → length g ≤ limit) → length g ≤ limit
-    go (inl e) ih = subst (λ h. length h ≤ limit) (sym e) (frame-short limit (entry_at a))
-    go (inr j) ih = ih j
-
 module _ (limit : ℕ) where
   queued-short : (q : PlainLink) (g : List ℕ) → Memᴰ g (queued limit q) → length g ≤ limit
-  queued-short q g i = all_short limit _ 0 q.count g i
+  queued-short q g i =
+      let frame_at : ℕ → List ℕ = λ k. frame limit (slice_index_or q.frames (place_of q k) nothing) in
+      let found = Memᴰ.of_map frame_at (range_with_len 0 q.count) i in
+      subst (λ h. length h ≤ limit) found.2 (frame-short limit (slice_index_or q.frames (place_of q found.0) nothing))
 
   queued_rest : (q : PlainLink) (g : List ℕ) → Memᴰ g (queued limit (popped q)) → Memᴰ g (queued limit q)
   queued_rest q g i = in_rest g (queued limit q) (subst (Memᴰ g) (queued-popped limit q) i)
