@@ -1,11 +1,10 @@
 -- A packet that is written byte by byte.
-use Rattle.std.proofs.Common.{◌≡◌, ℕ, ◌+◌, ◌*◌, ◌<◌, ◌≤◌, List, ◌++◌, length, get_or, take, drop, sym, ap, ◌∙◌, append_assoc, arith}
+use Rattle.std.proofs.Common.{◌≡◌, ℕ, ◌+◌, ◌*◌, ◌<◌, ◌≤◌, List, ◌++◌, length, get_or, take, drop, sym, ap, ap₂, ◌∙◌, arith}
 use borrow.Rule.Slice.PartMut.{put_mid}
 use Rattle.std.specs.List.{between}
 use Rattle.std.proofs.lemmas.List.FromFn.{length-map-range_with_len}
-use Rattle.std.proofs.lemmas.List.Edits.{length-between, split_between}
-use Rattle.std.proofs.lemmas.List.{length-append, length-drop, length-take-le, take_all, take_at}
-use Rattle.std.proofs.lemmas.Slice.{take-put_mid}
+use Rattle.std.proofs.lemmas.List.{length-append, length-drop, length-take-le, take-append-drop, take-take, take_all}
+use Rattle.std.proofs.lemmas.Slice.{between_is, take-put_mid}
 use Rattle.file.specs.declared.spelling.Spelling.{Spelling}
 use Rattle.file.specs.declared.spelling.Spelling.TheVariants.{Bits, Bytes}
 use Rattle.file.specs.Packets.{loaded, packet_of}
@@ -27,11 +26,8 @@ unfolding spelled
 length-spelled b n x = length-map-range_with_len (digit b n x) 0 n
 
 -- what stands before e stands before a, or from a on
-take-to : (xs : List ℕ) (a e : ℕ) → a ≤ e → e ≤ length xs → take e xs ≡ take a xs ++ between a e xs
-take-to xs a e h l =
-    ap (take e) (split_between xs a e h ∙ sym (append_assoc (take a xs) (between a e xs) (drop e xs)))
-    ∙ take_at (take a xs ++ between a e xs) (drop e xs) e
-    (omega (arith, length-append (take a xs) (between a e xs), length-take-le a xs (omega arith), length-between xs a e l))
+take-to : (xs : List ℕ) (a e : ℕ) → a ≤ e → take e xs ≡ take a xs ++ between a e xs
+take-to xs a e h = sym (take-append-drop a (take e xs)) ∙ ap₂ ◌++◌ (take-take a e xs h) (sym (between_is xs a e))
 
 -- the symbols xs have those of the first i bytes of packet k
 pub record Begun (s : Spelling) (file : List ℕ) (k i : ℕ) (xs : List ℕ) : Type 0 where
@@ -64,7 +60,7 @@ begun_more s file k i d n xs ys h ed en ey b =
           take-put_mid a n xs ys e (omega (arith, ends, fills)) (omega (arith, ends, b.long))
           ∙ ap (λ (l : List ℕ). l ++ ys) b.front
           ∙ ap (λ (l : List ℕ). take a packet ++ l) (ey ∙ sym (packet_part s file k i h))
-          ∙ sym (take-to packet a e (omega (arith, ends)) (omega (arith, ends, packet-length s file k)));
+          ∙ sym (take-to packet a e (omega (arith, ends)));
     })
 
 pub begun_all : (s : Spelling) → (file : List ℕ) (k i : ℕ) (xs : List ℕ) → i ≡ room s → Begun s file k i xs → xs ≡ packet_of s file k

@@ -45,6 +45,7 @@ impl<'a, F: Field> Digits<'a, F> {
     {
         let spelling = Spelling::of::<F>();
         let digits = &self.symbols[spelling.digits() * i..spelling.digits() * (i + 1)];
+        // A loop: a fold has to show that the number so far always fits, which was not proved without an invariant.
         let mut byte = 0;
         for digit in digits {
             byte = byte * spelling.base() + *digit;

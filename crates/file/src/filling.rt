@@ -19,7 +19,7 @@ use std::marker::PhantomData;
 #[derive(Drop)]
 pub struct Filling<F> {
     taken: u32,
-    // The file's length, or 0 while no packet has told it: `taken` says whether one has, and an Option would say it twice.
+    // The file's length, or 0 while no packet has told it: `taken` tells if one has, and an Option would repeat that.
     size: usize,
     field: PhantomData<F>,
     ghost short: { size ≤ 16000 },

@@ -19,4 +19,5 @@ pub use whole::Whole;
 pub const FILE_MOST: usize = 16_000;
 
 /// The symbols of a packet.
+// As in the crate of frames: neither of the two crates stands on the other.
 pub const SYMBOLS: usize = 128;

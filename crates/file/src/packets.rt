@@ -33,7 +33,7 @@ pub fn packet<F: Field>(file: &[u8], number: u32) -> Result<[u16; 128], Refusal>
     let digits = spelling.digits();
     let start = spelling.room() * number as usize;
     let mut symbols = [0; SYMBOLS];
-    // By place: no proof knows what `chunks_exact_mut` wrote, and a loop over the symbols took bits 0.28 ms a file longer.
+    // By place: no proof knows what `chunks_exact_mut` wrote, and a loop over symbols took bits 0.28 ms a file longer.
     for i in 0..spelling.room() {
         let at = digits * i;
         spelling.spell(held(file, start + i), &mut symbols[at..at + digits]);

@@ -1,5 +1,6 @@
 use Rattle.std.proofs.Common.{◌≡◌, ◌+◌, ◌-◌, ◌*◌, ◌<◌, ap, ◌∙◌, arith}
 use Rattle.file.specs.Spelling.{room, spelling_of}
+use Rattle.file.proofs.Counts.{room-least}
 use Rattle.file.proofs.Steps.{lacks}
 use Rattle.file.proofs.Writes.{wrote}
 use Rattle.file.proofs.filling.write.Goals as goal
@@ -8,12 +9,14 @@ pub slice_bounds-byte-items-count : goal.slice_bounds-byte-items-count
 slice_bounds-byte-items-count g c =
     let is : c.room-room.result ≡ room (spelling_of g.F.Field.means.q) = c.room-room.ensures ∙ ap room c.of.ensures in
     let l : c.room-room.result * c.args.taken < 4 + c.args.size = rw is (lacks (spelling_of g.F.Field.means.q) c.args.taken c.args.size c.requires.1) in
+    let wide = room-least (spelling_of g.F.Field.means.q) in
     omega arith
 
 pub slice_bounds-byte-items-start : goal.slice_bounds-byte-items-start
 slice_bounds-byte-items-start g c =
     let is : c.room-room.result ≡ room (spelling_of g.F.Field.means.q) = c.room-room.ensures ∙ ap room c.of.ensures in
     let l : c.room-room.result * c.args.taken < 4 + c.args.size = rw is (lacks (spelling_of g.F.Field.means.q) c.args.taken c.args.size c.requires.1) in
+    let wide = room-least (spelling_of g.F.Field.means.q) in
     omega arith
 
 pub returns : goal.returns
