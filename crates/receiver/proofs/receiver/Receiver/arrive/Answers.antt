@@ -6,16 +6,16 @@ use Rattle.receiver.specs.Arrival.{arrival}
 use Rattle.receiver.specs.Log.{call}
 use Rattle.receiver.proofs.receiver.Receiver.arrive.Goals as goal
 
-pub returns-clause-unchanged : goal.returns-clause-unchanged
-returns-clause-unchanged g c =
-    arrived_unchanged g.C.Field.means g.C.Carried.carries 32 c.args.self.now.state c.args.frame.now c.args.numbers.now (arrival c.arrive.result c.arrive.new.self c.arrive.new.numbers) c.arrive.ensures
-
-pub returns-clause-reduced : goal.returns-clause-reduced
-returns-clause-reduced g c =
-    arrived-sound g.C.Field.means g.met.C.Field.laws 32 (lit< tt) c.args.self.now.state g.C.Carried.carries c.args.frame.now c.args.numbers.now (arrival c.arrive.result c.arrive.new.self c.arrive.new.numbers) c.arrive.ensures
-    (read-only-proper g.C.Field.means g.C.Carried.carries 32 g.met.C.Carried.lays refl c.args.frame.now)
-
-pub returns-clause-stands : goal.returns-clause-stands
-returns-clause-stands g c =
-    let this = call c.args.frame.now c.args.numbers.now c.arrive.result c.arrive.new.numbers in
-    λ log run. promised g.C.Field.means g.met.C.Field.laws g.C.Carried.carries 32 (lit< tt) g.met.C.Carried.lays refl (this ∷ log) c.arrive.new.self (c.args.self.now.state, run, c.arrive.ensures)
+pub returns : goal.returns
+returns g c =
+    let m = g.C.Field.means in let laws = g.met.C.Field.laws in let carries = g.C.Carried.carries in let lays = g.met.C.Carried.lays in
+    let s = c.args.self.now.state in let bytes = c.args.frame.now in let numbers = c.args.numbers.now in
+    let after = arrival c.arrive.result c.arrive.new.self c.arrive.new.numbers in
+    let this = call bytes numbers c.arrive.result c.arrive.new.numbers in
+    record {
+      exact = c.arrive.ensures;
+      unchanged = arrived_unchanged m carries 32 s bytes numbers after c.arrive.ensures;
+      reduced = arrived-sound m laws 32 (lit< tt) s carries bytes numbers after c.arrive.ensures (read-only-proper m carries 32 lays refl bytes);
+      goes_on = λ log run. (s, run, c.arrive.ensures);
+      stands = λ log run. promised m laws carries 32 (lit< tt) lays refl (this ∷ log) c.arrive.new.self (s, run, c.arrive.ensures);
+    }
