@@ -20,7 +20,7 @@ pub record Waits (w k : ℕ) (c : State) : Type 0 where
 
 -- n frames, each of them fresh
 abbrev pub all_fresh : ℕ → Tally
-all_fresh n = record { frames = n; fresh = n; repeat = 0; refused = 0 }
+all_fresh n = record { sent = n; fresh = n; repeat = 0; refused = 0 }
 
 -- in a field of order q: where the numbers begin with packets k to k + count - 1 of any file, after its first k packets,
 -- these are taken

@@ -9,4 +9,4 @@ abbrev pub invariant-loop-number : goal.invariant-loop-number
 invariant-loop-number g l =
     Waits 32 l.number l.receiver.state
     × (l.tally ≡ all_fresh l.number)
-    × Filled (spelling_of g.C.Field.means.q) l.file l.number l.filling.taken l.filling.size l.buffer
+    × Filled (spelling_of g.C.Field.means.q) l.file.bytes.now l.number l.filling.taken l.filling.size l.buffer
