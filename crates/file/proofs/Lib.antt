@@ -1,6 +1,7 @@
 pub mod Carried
 pub mod Counts
 pub mod Digits
+pub mod Each
 pub mod Beside
 pub mod Fills
 pub mod Spelled

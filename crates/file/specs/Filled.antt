@@ -1,7 +1,7 @@
 -- A file, and the record that its packets fill.
-use Rattle.std.specs.Prelude.{◌≡◌, ℕ, ◌+◌, ◌*◌, ◌<◌, ◌≤◌, min, List, length, Ok, slice_index}
+use Rattle.std.specs.Prelude.{◌≡◌, ℕ, ◌+◌, ◌*◌, ◌/◌, ◌<◌, ◌≤◌, min, List, length, Ok, slice_index}
 use Rattle.file.specs.declared.spelling.Spelling.{Spelling}
-use Rattle.file.specs.Filling.{Outcome}
+use Rattle.file.specs.Filling.{Outcome, packet_in}
 use Rattle.file.specs.Packets.{packets, packet_of}
 
 -- a list of numbers is a file of at most 16,000 bytes
@@ -44,3 +44,19 @@ abbrev pub FillsOver : Spelling → List ℕ → ℕ → ℕ → List ℕ → Ou
 FillsOver s packet taken size buffer after =
     (file before : List ℕ) (k : ℕ) → File file → 16000 ≤ length buffer → FilledOver s file k taken size before buffer → packet ≡ packet_of s file k
     → TookOver s file (k + 1) before after
+
+-- the packets that stand in the numbers are packets k, k + 1 and so on of the file
+abbrev pub GoesOn : Spelling → List ℕ → ℕ → List ℕ → Type 0
+GoesOn s file k numbers = (i : ℕ) → i < length numbers / 128 → packet_in numbers i ≡ packet_of s file (k + i)
+
+-- after the first k packets of any file, those that stand in the numbers are taken, if they go on with it
+abbrev pub FillsAll : Spelling → List ℕ → ℕ → ℕ → List ℕ → Outcome → Type 0
+FillsAll s numbers taken size buffer after =
+    (file : List ℕ) (k : ℕ) → File file → 16000 ≤ length buffer → Filled s file k taken size buffer → GoesOn s file k numbers
+    → Took s file (k + length numbers / 128) after
+
+-- the same, and nothing but the bytes of these packets is written
+abbrev pub FillsAllOver : Spelling → List ℕ → ℕ → ℕ → List ℕ → Outcome → Type 0
+FillsAllOver s numbers taken size buffer after =
+    (file before : List ℕ) (k : ℕ) → File file → 16000 ≤ length buffer → FilledOver s file k taken size before buffer → GoesOn s file k numbers
+    → TookOver s file (k + length numbers / 128) before after

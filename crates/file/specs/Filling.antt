@@ -1,6 +1,6 @@
 -- What each call on a record answers and leaves. The state is two numbers, the packets taken and the file's length,
 -- which is 0 until the first packet is taken.
-use Rattle.std.specs.Prelude.{ℕ, ◌+◌, ◌-◌, ◌*◌, Bool, true, cond, not, ◌&&◌, List, [], ◌∷◌, map, length, Ok, Err, Result, ◌==◌, nat_le, nat_lt, slice_index}
+use Rattle.std.specs.Prelude.{ℕ, ◌+◌, ◌-◌, ◌*◌, ◌/◌, Bool, true, cond, not, ◌&&◌, List, [], ◌∷◌, map, length, take, drop, Ok, Err, Result, ◌==◌, nat_le, nat_lt, slice_index}
 use Rattle.refusal.specs.declared.Refusal.{Refusal}
 use Rattle.refusal.specs.declared.Refusal.TheVariants.{ShortBuffer, BadPacket, NotAByte, LongRecord}
 use Rattle.std.specs.List.{range_with_len}
@@ -37,6 +37,10 @@ byte_with s taken size packet buffer place = cond (holds s taken size place) (by
 unfoldable pub buffer_with : Spelling → ℕ → ℕ → List ℕ → List ℕ → List ℕ
 buffer_with s taken size packet buffer = map (byte_with s taken size packet buffer) (range_with_len 0 (length buffer))
 
+-- packet i of those that stand one after another in a list of numbers
+abbrev pub packet_in : List ℕ → ℕ → List ℕ
+packet_in numbers i = take 128 (drop (128 * i) numbers)
+
 -- an answer, the packets taken, the file's length and the buffer
 abbrev pub Outcome : Type 0
 Outcome = Result (Unit {0}) Refusal × ℕ × ℕ × List ℕ
@@ -55,3 +59,16 @@ adding q taken size packet buffer =
     (cond (not (length packet == 128 && below q packet)) (Err BadPacket, taken, size, buffer)
     (cond (not (below (spelling_of q).base packet)) (Err NotAByte, taken, size, buffer)
     (taking (spelling_of q) taken size packet buffer)))
+
+-- an answer goes on with the state that it leaves, and a refusal is the last
+abbrev pub go_on : Outcome → (ℕ → ℕ → List ℕ → Outcome) → Outcome
+go_on before next = elim before.0 [ Ok _ ↦ next before.1 before.2 before.3 | Err _ ↦ before ]
+
+-- adding packets one after another, up to the first refusal
+abbrev pub adding_each : ℕ → ℕ → ℕ → List (List ℕ) → List ℕ → Outcome
+adding_each q taken size [] buffer = (Ok tt, taken, size, buffer)
+adding_each q taken size (packet ∷ packets) buffer = go_on (adding q taken size packet buffer) (λ taken' size' buffer'. adding_each q taken' size' packets buffer')
+
+-- the packets of 128 numbers that stand one after another in a list; what is left at its end is none
+unfoldable pub packets_in : List ℕ → List (List ℕ)
+packets_in numbers = map (packet_in numbers) (range_with_len 0 (length numbers / 128))

@@ -2,8 +2,8 @@
 ghost use Rattle.std.specs.Prelude.{◌≡◌, ℕ, ◌+◌, ◌*◌, ◌<◌, ◌≤◌, true, false, List, length, Ok, Err};
 ghost use Rattle.refusal.specs.declared.Refusal.TheVariants.{Incomplete, ShortBuffer};
 ghost use Rattle.std.specs.Int.Digits.{AllBelowBase};
-ghost use Rattle.file.specs.Filled.{Filled, Fills, FillsOver};
-ghost use Rattle.file.specs.Filling.{adding, below, buffer_with, complete, size_with_packet, taking};
+ghost use Rattle.file.specs.Filled.{Filled, Fills, FillsAll, FillsAllOver, FillsOver};
+ghost use Rattle.file.specs.Filling.{adding, adding_each, below, buffer_with, complete, packets_in, size_with_packet, taking};
 ghost use Rattle.file.specs.Packets.{packets};
 ghost use Rattle.file.specs.Spelling.{spelling_of, Known};
 
@@ -54,6 +54,19 @@ impl<F: Field> Filling<F> {
             return Err(Refusal::NotAByte);
         }
         self.take_packet(packet, buffer)
+    }
+
+    /// Takes the packets that stand one after another in the numbers, up to the first refusal. Numbers past the last
+    /// whole packet are left aside.
+    pub fn add_all(&mut self, numbers: &[u16], buffer: &mut [u8]) -> Result<(), Refusal>
+        ensures exact { (result, self.new.taken, self.new.size, buffer.new) ≡ adding_each F.means.q self.old.taken self.old.size (packets_in numbers.now) buffer.old }
+        ensures fills { FillsAll (spelling_of F.means.q) numbers.now self.old.taken self.old.size buffer.old (result, self.new.taken, self.new.size, buffer.new) }
+        ensures fills_over { FillsAllOver (spelling_of F.means.q) numbers.now self.old.taken self.old.size buffer.old (result, self.new.taken, self.new.size, buffer.new) }
+    {
+        for packet in numbers.chunks_exact(SYMBOLS) {
+            self.add(packet, buffer)?;
+        }
+        Ok(())
     }
 
     // Takes a packet of bytes.
