@@ -5,7 +5,7 @@ ghost use Rattle.frame.specs.DataFrame.{reading};
 ghost use Rattle.file.specs.Packets.{packets};
 ghost use Rattle.file.specs.Spelling.{spelling_of};
 ghost use Rattle.receiver.specs.Buffers.{over};
-ghost use Rattle.job.specs.Crossing.{alone, Waits, all_fresh, Unloads};
+ghost use Rattle.job.specs.Crossing.{alone, Waits, all_fresh};
 
 use super::line::ShortFile;
 use super::tally::Tally;
@@ -30,7 +30,7 @@ pub(crate) fn carry<C: Carried>(
     for number in 0..packet_count::<C>(file.bytes.len() as u32) {
         let symbols = packet::<C>(file.bytes, number)?;
         let released = cross::<C>(number, symbols, &mut receiver, &mut numbers, &mut tally)?;
-        unload::<C>(released, &numbers, &mut filling, buffer)?;
+        filling.add_all(&numbers[..128 * released as usize], buffer)?;
     }
     let whole = filling.finish().map_err(|(_, refusal)| refusal)?;
     Ok((tally, whole))
@@ -76,20 +76,4 @@ fn write_alone<C: Carried>(
         symbols,
     };
     write_data::<C>(&data, frame)
-}
-
-// Hands the released packets, in order, to the filling record.
-fn unload<C: Carried>(
-    count: u32,
-    numbers: &[u16],
-    filling: &mut Filling<C>,
-    buffer: &mut [u8],
-) -> Result<(), Refusal>
-    requires { 128 * count ≤ length numbers.now }
-    ensures { Unloads C.Field.means.q count numbers.now filling.old.taken filling.old.size buffer.old (result, filling.new.taken, filling.new.size, buffer.new) }
-{
-    for i in 0..count as usize {
-        filling.add(&numbers[128 * i..128 * (i + 1)], buffer)?;
-    }
-    Ok(())
 }

@@ -1,6 +1,4 @@
-use Rattle.std.proofs.Common.{◌≡◌, ℕ, ◌+◌, take, Ok, Result, ap, ◌∙◌, arith, lit<}
-use native.Mathlib.Nat.{sub-zero}
-use Rattle.frame.specs.DataFrame.{reading}
+use Rattle.std.proofs.Common.{◌+◌, Ok, Result, ap, ◌∙◌, arith, lit<}
 use Rattle.receiver.specs.declared.state.Answer.{Answer}
 use Rattle.receiver.specs.declared.state.Answer.TheVariants.{Fresh}
 use Rattle.refusal.specs.declared.Refusal.{Refusal}
@@ -13,11 +11,8 @@ pub returns : goal.returns
 returns g c =
     let m = g.C.Field.means in
     let carries = g.C.Carried.carries in
-    let frame = c.write_alone.new.frame in
-    let n = c.in_ok-length.length in
-    let reads = ap (λ (k : ℕ). reading m carries 32 (take k frame)) (sub-zero n) ∙ c.in_ok-length.ensures.1 in
     let came = crossed 32 (lit< tt) m g.met.C.Field.laws c.args.number c.requires.packet.0 c.args.symbols c.requires.packet.1
-    carries _ c.args.numbers.now (omega arith) reads c.args.receiver.now.state c.requires.waits.0 _ _ _ c.arrive-answer.ensures.exact in
+    carries _ c.args.numbers.now (omega arith) c.in_ok-length.ensures.1 c.args.receiver.now.state c.requires.waits.0 _ _ _ c.arrive-answer.ensures.exact in
     let sent : Tally → Tally = λ (t : Tally). record { sent = t.sent + 1; fresh = t.fresh; repeat = t.repeat; refused = t.refused } in
     record {
       answer = ap Ok (c.count.ensures.released ∙ ap released_by came.fresh);
