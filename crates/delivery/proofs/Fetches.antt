@@ -16,7 +16,7 @@ use Rattle.transfer.specs.Log.{Event, arriving, arrivals, admitted, sendings}
 use Rattle.transfer.specs.Parts.{Parts, PartsLaws, State}
 use Rattle.transfer.specs.Steps.{fetched, fetch_takes, fetches}
 use Rattle.delivery.specs.declared.progress.Progress.{Progress}
-use Rattle.delivery.specs.declared.tally.Tally.{Tally}
+use Rattle.job.specs.declared.tally.Tally.{Tally}
 use Rattle.delivery.specs.Follows.{Follows}
 use Rattle.delivery.specs.Outcome.{repeat_count, repeat_one, refused_count, refused_one}
 use Rattle.delivery.specs.Rounds.{Course, fetch_one}

@@ -6,7 +6,6 @@ pub mod Fetches
 pub mod Fetching
 pub mod Hearing
 pub mod Loops
-pub mod Parsing
 pub mod Queues
 pub mod Rounding
 pub mod Sending

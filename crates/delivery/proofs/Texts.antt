@@ -1,5 +1,5 @@
 -- What the program writes of a job that was read.
-use Rattle.std.proofs.Common.{◌≡◌, ℕ, true, eqb, leb, List, [], ◌∷◌, ◌++◌, length, take, drop, Some, None, Ok, Err, Option, Result, sym, refl, ap, ◌∙◌, subst, arith}
+use Rattle.std.proofs.Common.{◌≡◌, ℕ, true, eqb, leb, List, [], ◌∷◌, ◌++◌, length, take, drop, codes, Some, None, Ok, Err, Option, Result, sym, refl, ap, ◌∙◌, subst, arith}
 use Rattle.std.proofs.lemmas.List.{take_at}
 use Rattle.std.proofs.lemmas.Bool.{cond_both, cond-true, leb-true}
 use Rattle.refusal.specs.declared.Refusal.{Refusal}
@@ -7,16 +7,18 @@ use Rattle.refusal.specs.declared.Refusal.TheVariants.{BadLine}
 use Rattle.link.specs.Script.{proper}
 use Rattle.receiver.specs.Log.{released}
 use Rattle.transfer.specs.Log.{arrivals}
-use Rattle.delivery.specs.declared.line.FieldKind.{FieldKind}
-use Rattle.delivery.specs.declared.line.SourceKind.{SourceKind}
+use Rattle.job.specs.declared.line.FieldKind.{FieldKind}
+use Rattle.job.specs.declared.line.SourceKind.{SourceKind}
 use Rattle.delivery.specs.declared.outcome.Ending.{Ending}
 use Rattle.delivery.specs.declared.outcome.Ending.TheVariants.{Whole, Spent}
 use Rattle.delivery.specs.declared.outcome.Outcome.{Outcome}
 use Rattle.delivery.specs.Answer.{ending_text, outcome_text, asked_text, answered}
-use Rattle.delivery.specs.Line.{split, field_kind, source_kind, Asked, checked, kinds, lined, parsed}
+use Rattle.job.specs.Line.{split, field_kind, source_kind, Asked, checked, kinds, lined, parsed}
 use Rattle.delivery.specs.Outcome.{outcome_of, log_of, ran, EndsRightly, setup_of, Ends}
 use Rattle.delivery.specs.Rounds.{done}
-use Rattle.delivery.specs.Output.{counts_text, whole_text, shown_ending, shown_text, Within}
+use Rattle.job.specs.Counts.{counts_text}
+use Rattle.job.specs.Output.{file_text}
+use Rattle.delivery.specs.Output.{shown_ending, shown_text, Within}
 
 -- what was read has a script and is not too long
 abbrev Good : Result Asked Refusal → Type 0
@@ -67,7 +69,7 @@ module _ (input : List ℕ) (job : Asked) (is : parsed input ≡ Ok job) where
     -- what is shown is what the job's rounds come to
     pub shown-right : (before after : List ℕ) → EndsRightly job.field job.source job.script job.file before after (Ok o) → shown_text after o ≡ answered input
     shown-right before after right =
-        ap (λ (x : List ℕ). counts_text o.tally ++ x) (subst (λ (x : Outcome). Right x.ending) (sym outcome-known) go right)
+        ap (λ (x : List ℕ). counts_text (codes "sent") o.tally ++ x) (subst (λ (x : Outcome). Right x.ending) (sym outcome-known) go right)
         ∙ ap (outcome_text job.file) outcome-known
         ∙ sym (ap asked_text is)
       where
@@ -80,4 +82,4 @@ module _ (input : List ℕ) (job : Asked) (is : parsed input ≡ Ok job) where
         go =
             let log = log_of job.field job.source job.script job.file in
             cond_both (done log) (Whole (length job.file)) (Spent (length (released (arrivals log)))) Right
-            (λ _ h. ap whole_text (ap (take (length job.file)) h ∙ take_at job.file (drop (length job.file) before) (length job.file) refl)) (λ _ _. refl)
+            (λ _ h. ap file_text (ap (take (length job.file)) h ∙ take_at job.file (drop (length job.file) before) (length job.file) refl)) (λ _ _. refl)

@@ -1,6 +1,5 @@
 pub mod Answer
 pub mod Follows
-pub mod Line
 pub mod Outcome
 pub mod Output
 pub mod Phases

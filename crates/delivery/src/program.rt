@@ -2,10 +2,10 @@
 ghost use Rattle.std.specs.Prelude.{◌≡◌, IfOk};
 ghost use Rattle.delivery.specs.Answer.{answered};
 
-use super::line::parse;
 use super::output;
 use super::running::run;
 use file::FILE_MOST;
+use job::parse;
 use std::alloc::{AllocError, Global};
 
 /// What the program writes for this input. The file that it shows is the one that was put together, not the one that came
@@ -15,11 +15,11 @@ pub fn answer(heap: Global, input: &[u8]) -> Result<Vec<u8>, AllocError>
 {
     let job = match parse(input) {
         Ok(job) => job,
-        Err(refusal) => return output::refused(heap, refusal),
+        Err(refusal) => return job::refused(heap, refusal),
     };
     let mut buffer = [0; FILE_MOST];
     match run(job, &mut buffer) {
         Ok(outcome) => output::outcome(heap, outcome, &buffer),
-        Err(refusal) => output::refused(heap, refusal),
+        Err(refusal) => job::refused(heap, refusal),
     }
 }

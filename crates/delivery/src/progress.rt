@@ -6,7 +6,7 @@ ghost use Rattle.file.specs.Spelling.{spelling_of};
 ghost use Rattle.delivery.specs.Phases.{outcome_from};
 
 use super::outcome::{Ending, Outcome};
-use super::tally::Tally;
+use job::Tally;
 use field::Field;
 use file::Filling;
 use refusal::Refusal;
@@ -31,7 +31,7 @@ impl<C: Field> Progress<C> {
         Progress {
             heard: 0,
             released: 0,
-            tally: Tally::new(),
+            tally: Tally::default(),
             numbers: [0; 4096],
             filling: Filling::new(),
         }

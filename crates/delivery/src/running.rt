@@ -4,12 +4,12 @@ ghost use Rattle.link.specs.OfScripted.{new_link};
 ghost use Rattle.delivery.specs.Outcome.{with_source, setup_of, ran, EndsRightly};
 ghost use Rattle.delivery.specs.Phases.{CarriesOut};
 
-use super::line::{FieldKind, Job, SourceKind};
 use super::outcome::Outcome;
 use super::rounds::carry;
 use carried::Carried;
 use field::{Bits, Bytes, Residues};
 use file::FILE_MOST;
+use job::{FieldKind, Job, SourceKind};
 use link::ScriptedLink;
 use refusal::Refusal;
 use source::{Plain, Woven};
