@@ -6,7 +6,9 @@ use Rattle.link.specs.declared.scripted.ScriptedLink.{ScriptedLink}
 use Rattle.file.specs.Filled.{File, FilledOver}
 use Rattle.file.specs.Packets.{packets, packet_of}
 use Rattle.file.specs.Spelling.{spelling_of}
+use Rattle.job.specs.Counts.{answered_with, released_by}
 use Rattle.receiver.specs.Log.{released}
+use Rattle.receiver.specs.declared.state.Answer.{Answer}
 use Rattle.transfer.specs.Log.{Event, arrivals, admitted, heard}
 use Rattle.transfer.specs.Parts.{Parts, State}
 use Rattle.transfer.specs.Run.{Run}
@@ -55,6 +57,13 @@ unfoldable pub LeadsOn : {S C : Type 0} → Parts S ScriptedLink PlainLink → (
 LeadsOn {S} p step r σ v buffer τ u after =
     (file before : List ℕ) (shut : Bool) (t : ℕ) (c : Course S ScriptedLink PlainLink) → Follows p file before shut t c σ v buffer
     → (r ≡ Ok tt) × Follows p file before shut t (step c) τ u after
+
+-- an answer of a fetch was kept: it is counted, and all but the record is as before
+pub record Keeps {C : Type 0} (answer : Result Answer Refusal) (v u : Progress C) : Type 0 where
+  pub heard : u.heard ≡ v.heard
+  pub numbers : u.numbers ≡ v.numbers
+  pub tally : u.tally ≡ answered_with answer v.tally
+  pub released : u.released ≡ v.released + released_by answer
 
 -- the counts are small, and stay so as frames that wait are fetched
 pub record Small {C : Type 0} (n : ℕ) (v : Progress C) (x : ScriptedLink) : Type 0 where

@@ -4,4 +4,3 @@ pub mod Outcome
 pub mod Output
 pub mod Phases
 pub mod Rounds
-pub mod Unloading

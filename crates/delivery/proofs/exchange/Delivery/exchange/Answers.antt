@@ -1,9 +1,6 @@
 use Rattle.std.proofs.Common.{◌+◌}
 use Rattle.delivery.specs.Follows.{Leads, LeadsOn}
-use Rattle.delivery.proofs.exchange.exchange.Goals as goal
-
-pub fetch_all-fetched-requires : goal.fetch_all-fetched-requires
-fetch_all-fetched-requires g c = (c.send_once.ensures.small 256000 c.requires.0, c.requires.1)
+use Rattle.delivery.proofs.exchange.Delivery.exchange.Goals as goal
 
 pub returns : goal.returns
 unfolding Leads LeadsOn
