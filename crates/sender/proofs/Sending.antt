@@ -1,7 +1,7 @@
 -- A send that is not refused: what is drawn is proper, so that the frame is written.
 use Rattle.std.proofs.Common.{◌≡◌, ℕ, ◌+◌, ◌<◌, ◌≤◌, eqb, ltb, List, ◌++◌, length, get_or, drop, Ok, Result, sym, refl, ap, ◌∙◌, subst, ap₂, arith}
 use Rattle.std.proofs.lemmas.List.FromFn.{length-map-range_with_len, get_or-map-range_with_len}
-use Rattle.std.proofs.lemmas.Bool.{and_from, cond-true, cond-false, le-leb, le-ltb, eq-eqb, ne_eqb}
+use Rattle.std.proofs.lemmas.Bool.{cond-false, le-ltb, ne_eqb}
 use Rattle.refusal.specs.declared.Refusal.{Refusal}
 use Rattle.field.specs.Field.{Means, Laws, times}
 use Rattle.carried.specs.Carries.{Carries}
@@ -12,7 +12,7 @@ use Rattle.frame.proofs.Frames.{write_done}
 use Rattle.frame.proofs.Rules.{flawless}
 use Rattle.algebra.specs.Streams.{sum}
 use Rattle.algebra.proofs.Codes.{sum-code}
-use Rattle.source.specs.Source.{Draws, DrawsLaws, Drawn, allowed, drawn}
+use Rattle.source.specs.Source.{Draws, DrawsLaws}
 use Rattle.sender.specs.declared.window.Window.{Window}
 use Rattle.sender.specs.Steps.{Sound, Sent, combined, payload, sending, packet_at, width}
 
@@ -56,15 +56,6 @@ module _ {S : Type 0} (w : ℕ) (m : Means) (laws : Laws m) (c : Carries) (d : D
   wrote buffer room =
       let d = combined w m x row in
       write_done m c w d buffer c.len c.len (frame_of c w d) refl refl room (flawless m.q w d combined-proper) refl
-
-  -- and the draw is allowed
-  pub drew : (q n : ℕ) (zeros : List ℕ) (r : Drawn S) → q ≡ m.q → n ≡ width x → length zeros ≡ w → r ≡ drawn w d source q n zeros
-      → (r.slots ≡ row) × (r.state ≡ d.next source m.q (width x))
-  drew q n zeros r e f long exact =
-      let least = laws.least in
-      let may = and_from _ _ (le-leb 2 q (omega arith)) (and_from _ _ (le-leb 1 n (omega arith)) (and_from _ _ (le-leb n w (omega arith)) (eq-eqb (length zeros) w long))) in
-      let done = exact ∙ cond-true (allowed w q n zeros) _ _ may in
-      (ap (λ z. z.slots) done ∙ ap₂ (d.slots source) e f, ap (λ z. z.state) done ∙ ap₂ (d.next source) e f)
 
   pub sent : (buffer out slots symbols : List ℕ) (n : ℕ) (after : S) (r : Result ℕ Refusal) → c.len ≤ length buffer
       → n ≡ width x → slots ≡ row → after ≡ d.next source m.q (width x) → symbols ≡ payload w m x slots

@@ -3,4 +3,3 @@ pub mod OfWoven
 pub mod Source
 pub mod Turn
 pub mod Turning
-pub mod Triangular

@@ -1,5 +1,5 @@
 -- A source whose slots end with 1 at its place, which takes each turn, keeps the laws of a source.
-use Rattle.std.specs.Prelude.{◌≡◌, ℕ, zero, suc, ◌+◌, ◌%◌, ◌<◌, ◌≤◌, cond, ◌⊎◌, map, length, ◌==◌, nat_lt, slice_index, refl}
+use Rattle.std.specs.Prelude.{◌≡◌, ℕ, zero, suc, ◌+◌, ◌%◌, ◌<◌, ◌≤◌, cond, ◌⊎◌, List, [], map, length, ◌==◌, nat_lt, slice_index, slice_index_or, refl}
 use Rattle.std.proofs.Math.Logic.{inl}
 use Rattle.std.proofs.Common.{inr, sym, ◌∙◌, mod-lt, mod-eq_of_lt, zero-add, arith}
 use Rattle.std.proofs.Math.Path.{ap, subst}
@@ -7,10 +7,13 @@ use Rattle.std.proofs.Math.Nat.{mod-mod, mod_self}
 use Rattle.std.proofs.Math.ListN.{get_or-eq_default}
 use Rattle.std.proofs.lemmas.List.FromFn.{length-map-range_with_len, get_or-map-range_with_len}
 use Rattle.std.proofs.lemmas.Bool.{cases_lt, eq-eqb, ne_eqb, le-ltb, cond-true, cond-false, cond_both}
+use Rattle.algebra.proofs.Frames.{row-slot_zero}
+use Rattle.algebra.proofs.Independence.{ends_apart_independent}
+use Rattle.algebra.specs.Combinations.{Independent}
+use Rattle.algebra.specs.Frames.{row_at}
 use Rattle.source.specs.Source.{Draws, DrawsLaws, run, row}
 use Rattle.source.specs.Turn.{place_at, moved, slot, ending}
 use Rattle.source.specs.declared.turn.Turn.{Turn}
-use Rattle.source.specs.Triangular.{nth_row, independent}
 
 place_low : (t : Turn) (n : ℕ) → 1 ≤ n → place_at t n < n
 place_low t n h = cond_both (t.width == n) (t.place % n) 0 (λ p. p < n) (λ _. mod-lt t.place h) (λ _. h)
@@ -59,16 +62,20 @@ after : {S : Type 0} → Draws S → S → ℕ → ℕ → ℕ → S
 after d x q n zero = x
 after d x q n (suc i) = after d (d.next x q n) q n i
 
-pub run_long : {S : Type 0} (d : Draws S) (x : S) (q n k : ℕ) → length (map row (run d x q n k)) ≡ k
+pub run_long : {S : Type 0} (d : Draws S) (x : S) (q n k : ℕ) → length (run d x q n k) ≡ k
 unfolding run
 run_long d x q n zero = refl
 run_long d x q n (suc k) = ap suc (run_long d (d.next x q n) q n k)
 
-run_row : {S : Type 0} (d : Draws S) (x : S) (q n k i : ℕ) → i < k → nth_row (map row (run d x q n k)) i ≡ row (d.slots (after d x q n i) q n)
+run_at : {S : Type 0} (d : Draws S) (x : S) (q n k i : ℕ) → i < k → slice_index_or (run d x q n k) i [] ≡ d.slots (after d x q n i) q n
 unfolding run after
-run_row d x q n zero i h = absurd (omega arith)
-run_row d x q n (suc k) zero h = refl
-run_row d x q n (suc k) (suc i) h = run_row d (d.next x q n) q n k i (omega arith)
+run_at d x q n zero i h = absurd (omega arith)
+run_at d x q n (suc k) zero h = refl
+run_at d x q n (suc k) (suc i) h = run_at d (d.next x q n) q n k i (omega arith)
+
+-- the row of some slots is their row from number 0 on
+pub row_from_0 : row_at 0 ≡ row
+row_from_0 = λ t slots k. row-slot_zero slots k t
 
 module _ {S : Type 0} (w : ℕ) (turn : S → Turn) (f : S → ℕ → ℕ → ℕ) (next : S → ℕ → ℕ → S)
     (codes : (x : S) (q i : ℕ) → 2 ≤ q → f x q i < q) (moves : (x : S) (q n : ℕ) → turn (next x q n) ≡ moved (turn x) n) where
@@ -115,12 +122,15 @@ module _ {S : Type 0} (w : ℕ) (turn : S → Turn) (f : S → ℕ → ℕ → �
     codes = λ x q n two _ _. codes_at w (place_at (turn x) n) (f x q) q two (λ i. codes x q i two);
     within = λ x q n _ some _ i l. none_above w (place_at (turn x) n) (f x q) i (let low = place_low (turn x) n some in omega arith);
     independent = λ m laws x n some most.
-        independent m laws n (map row (run draws x m.q n n)) (at m.q n some x) (run_long draws x m.q n n)
+        let long = run_long draws x m.q n n in
+        let low : (i : ℕ) → i < length (run draws x m.q n n) → i < n = λ i l. omega (arith, long) in
+        subst (λ (f : List ℕ → ℕ → ℕ). Independent m (map f (run draws x m.q n n))) row_from_0
+        (ends_apart_independent m laws (run draws x m.q n n) (at m.q n some x) n
         (λ i _. at_low m.q n some x i)
-        (own m.q n some x)
+        (λ i j a b. own m.q n some x i j (low i a) (low j b))
         (λ i l. let s = after draws x m.q n i in
-        ap (λ r. r (at m.q n some x i)) (run_row draws x m.q n n i l)
-        ∙ one_at w (place_at (turn s) n) (f s m.q) (let low = at_low m.q n some x i in omega arith))
+        ap (λ (xs : List ℕ). slice_index xs (at m.q n some x i)) (run_at draws x m.q n n i (low i l))
+        ∙ one_at w (place_at (turn s) n) (f s m.q) (let below = at_low m.q n some x i in omega arith))
         (λ i k l h. let s = after draws x m.q n i in
-        ap (λ r. r k) (run_row draws x m.q n n i l) ∙ none_above w (place_at (turn s) n) (f s m.q) k h);
+        ap (λ (xs : List ℕ). slice_index xs k) (run_at draws x m.q n n i (low i l)) ∙ none_above w (place_at (turn s) n) (f s m.q) k h));
   }

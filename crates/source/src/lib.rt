@@ -5,7 +5,7 @@
 //! n frames in a row carry the whole window.
 #![tactic(auto)]
 
-ghost use Rattle.std.specs.Prelude.{◌≡◌, true, false, length, MatchResult};
+ghost use Rattle.std.specs.Prelude.{◌≡◌, ℕ, ◌≤◌, false, List, MatchResult};
 ghost use Rattle.refusal.specs.declared.Refusal.TheVariants.{BadDraw};
 ghost use Rattle.source.specs.Source.{Draws, DrawsLaws, allowed, drawn};
 
@@ -33,11 +33,11 @@ pub trait Source {
     ghost laws: { DrawsLaws 32 means };
 }
 
-// The check that every source makes before it draws.
-fn check_draw(order: u16, width: usize, slots: &[u16]) -> Result<(), Refusal>
-    ensures { MatchResult result (λ _. (allowed 32 order width slots.now ≡ true) × (length slots.now ≡ 32)) (λ e. (e ≡ BadDraw) × (allowed 32 order width slots.now ≡ false)) }
+// The check of a draw's order and width that every source makes, with the 32 slots at hand, before it draws.
+fn check_draw(order: u16, width: usize) -> Result<(), Refusal>
+    ensures { MatchResult result (λ _. (2 ≤ order) × (1 ≤ width) × (width ≤ 32)) (λ e. (e ≡ BadDraw) × ((slots : List ℕ) → allowed 32 order width slots ≡ false)) }
 {
-    if order < 2 || width < 1 || width > SLOTS || slots.len() != SLOTS {
+    if order < 2 || width < 1 || width > SLOTS {
         return Err(Refusal::BadDraw);
     }
     Ok(())

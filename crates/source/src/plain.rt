@@ -1,12 +1,12 @@
 //! One packet at a time.
-ghost use Rattle.std.specs.Prelude.{◌≡◌, length, refl};
+ghost use Rattle.std.specs.Prelude.{◌≡◌, ◌<◌, refl};
 ghost use Rattle.source.specs.OfPlain.{plain};
 ghost use Rattle.source.specs.Turn.{start, ending};
 ghost use Rattle.std.proofs.Common.{arith};
 ghost use Rattle.source.specs.Turning.{turning_laws};
 
 use super::turn::Turn;
-use super::{Source, check_draw};
+use super::{SLOTS, Source, check_draw};
 use refusal::Refusal;
 
 /// Draws the packets of the window one by one, in turn.
@@ -30,19 +30,22 @@ impl Source for Plain {
     ghost laws = { turning_laws 32 (λ x. x.turn) (λ x q i. 0) (plain 32).next (λ x q i h. omega arith) (λ x q n. refl) };
 
     fn draw(&mut self, order: u16, width: usize, slots: &mut [u16]) -> Result<(), Refusal> {
-        check_draw(order, width, slots)?;
+        let Some(slots) = slots.as_mut_array::<SLOTS>() else {
+            return Err(Refusal::BadDraw);
+        };
+        check_draw(order, width)?;
         let place = self.turn.take(width);
-        mark(slots, place);
+        *slots = marked(place);
         Ok(())
     }
 }
 
-// Writes 1 at the place, and 0 elsewhere.
-fn mark(slots: &mut [u16], place: usize)
-    requires { length slots.old ≡ 32 }
-    ensures { slots.new ≡ ending 32 place (λ i. 0) }
+// 1 at the place, and 0 elsewhere.
+fn marked(place: usize) -> [u16; SLOTS]
+    requires { place < 32 }
+    ensures { result ≡ ending 32 place (λ i. 0) }
 {
-    for (i, slot) in slots.iter_mut().enumerate() {
-        *slot = u16::from(i == place);
-    }
+    let mut slots = [0; SLOTS];
+    slots[place] = 1;
+    slots
 }

@@ -6,7 +6,7 @@ ghost use Rattle.std.proofs.Common.{mod-lt, arith};
 ghost use Rattle.source.specs.Turning.{turning_laws};
 
 use super::turn::Turn;
-use super::{Source, check_draw};
+use super::{SLOTS, Source, check_draw};
 use refusal::Refusal;
 
 /// Draws each packet of the window in turn, mixed with those below it.
@@ -51,10 +51,9 @@ impl Woven {
     }
 
     // Writes the coefficient of each slot.
-    fn weave(&mut self, order: u16, place: usize, slots: &mut [u16])
+    fn weave(&mut self, order: u16, place: usize, slots: &mut [u16; SLOTS])
         requires order { 0 < order }
         requires place { place ≤ 32 }
-        requires slots { length slots.old ≡ 32 }
         ensures slots { slots.new ≡ ending 32 place (codes self.old order) }
         ensures after { self.new ≡ record { turn = self.old.turn; v = generated self.old.v place } }
     {
@@ -70,7 +69,10 @@ impl Source for Woven {
     ghost laws = { turning_laws 32 (λ x. x.turn) codes (woven 32).next (λ x q i h. mod-lt (generated x.v (suc i) / 65536) (omega arith)) (λ x q n. refl) };
 
     fn draw(&mut self, order: u16, width: usize, slots: &mut [u16]) -> Result<(), Refusal> {
-        check_draw(order, width, slots)?;
+        let Some(slots) = slots.as_mut_array::<SLOTS>() else {
+            return Err(Refusal::BadDraw);
+        };
+        check_draw(order, width)?;
         let place = self.turn.take(width);
         self.weave(order, place, slots);
         Ok(())

@@ -1,5 +1,4 @@
-pub mod Taking
-pub mod Answering
+pub mod Sent
 pub mod Calls
 pub mod Ends
 pub mod Coding

@@ -12,6 +12,7 @@ use Rattle.algebra.proofs.Frames.{row-after}
 use Rattle.algebra.proofs.Growing.{spans_grow_lem}
 use Rattle.algebra.proofs.Windows.{window_decodes_lem}
 use Rattle.source.specs.Source.{run as draws-in-a-row}
+use Rattle.source.specs.Turning.{run_long}
 use Rattle.receiver.specs.Log.{accepted, released, said}
 use Rattle.receiver.proofs.Aligning.{said-proper}
 use Rattle.receiver.proofs.Faith.{read-only-proper}
@@ -21,7 +22,7 @@ use Rattle.transfer.specs.Promise.{WindowTaken}
 use Rattle.transfer.specs.Run.{Run}
 use Rattle.transfer.proofs.Ends.{sound, holds, window-heard}
 use Rattle.transfer.proofs.Kept.{promise, trimmed, rows_end, taken-fit}
-use Rattle.transfer.proofs.Rows.{Told, Row, row_sent, draws-long, independent-at}
+use Rattle.transfer.proofs.Rows.{Told, Row, row_sent, independent-at}
 
 module _ {S D R : Type 0} (w : ℕ) (pos : 0 < w) (whole : w % 8 ≡ 0) (p : Parts S D R) (laws : PartsLaws w p) (x : S) (a : D) (b : R)
     (forth : p.forward.waiting a ≡ []) (back : p.reverse.waiting b ≡ [])
@@ -93,7 +94,7 @@ module _ {S D R : Type 0} (w : ℕ) (pos : 0 < w) (whole : w % 8 ≡ 0) (p : Par
           let draws = draws-in-a-row p.draws r.state.source p.means.q n n in
           let h = settling draws r.told in
           window_decodes_lem 65536 128 p.means laws.means h.frames u n fit.0 h.seen h.short
-          draws (draws-long p.draws r.state.source p.means.q n n)
+          draws (run_long p.draws r.state.source p.means.q n n)
           (independent-at p.means draws (laws.draws.independent p.means laws.means r.state.source n some fit.1))
           h.spanned k l s t (h.fitting s hs) (h.fitting t ht)
 

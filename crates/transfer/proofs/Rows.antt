@@ -2,7 +2,6 @@
 use Rattle.std.proofs.Common.{◌≡◌, ℕ, suc, ◌+◌, ◌%◌, ◌≤◌, ◌⊎◌, List, [], ◌∷◌, ◌++◌, map, length, Ok, sym, refl, ap, ◌∙◌, subst, inl, inr, arith}
 use mathlib.Core.List.Memᴰ
 use mathlib.Core.List.{Memᴰ}
-use lib.ListN.{length-map}
 use Rattle.field.specs.Field.{Means}
 use Rattle.frame.specs.DataFrame.{reading}
 use Rattle.frame.specs.declared.data.Data.{Data}
@@ -11,9 +10,8 @@ use Rattle.frame.proofs.Rules.{flawless}
 use Rattle.frame.specs.Proper.{Proper}
 use Rattle.algebra.specs.Combinations.{Independent, rows_at}
 use Rattle.algebra.specs.Frames.{Frame}
-use Rattle.algebra.proofs.Frames.{row-slot_zero}
 use Rattle.source.specs.Source.{Draws, run as draws-in-a-row, row as row_of}
-use Rattle.source.specs.Turning.{run_long}
+use Rattle.source.specs.Turning.{row_from_0}
 use Rattle.sender.specs.Steps.{combined, width}
 use Rattle.sender.proofs.Sending.{combined-proper}
 use Rattle.receiver.specs.Log.{accepted}
@@ -22,9 +20,6 @@ use Rattle.transfer.specs.Parts.{Parts, PartsLaws, State}
 use Rattle.transfer.specs.Run.{Run}
 use Rattle.transfer.proofs.Ends.{sound, holds, window-heard}
 use Rattle.transfer.proofs.Sends.{Sent, newest}
-
-pub draws-long : {S : Type 0} (d : Draws S) (x : S) (q n k : ℕ) → length (draws-in-a-row d x q n k) ≡ k
-draws-long d x q n k = sym (length-map (draws-in-a-row d x q n k) row_of) ∙ run_long d x q n k
 
 -- a draw is the first, or one of those after it
 first_draw : {S : Type 0} (d : Draws S) (x y : S) (q n k : ℕ) → y ≡ d.next x q n → (slots : List ℕ) → Memᴰ slots (draws-in-a-row d x q n (suc k))
@@ -43,7 +38,7 @@ no_draw d x q n slots i = Memᴰ.not-nil i
 
 -- the rows of draws are those with their slots from 0 on
 pub independent-at : (m : Means) (draws : List (List ℕ)) → Independent m (map row_of draws) → Independent m (rows_at 0 draws)
-independent-at m draws = subst (λ f. Independent m (map f draws)) (λ t slots k. sym (row-slot_zero slots k) t)
+independent-at m draws = subst (λ f. Independent m (map f draws)) (sym row_from_0)
 
 -- the send coded the window of n packets from u on
 abbrev WindowOf : ℕ → ℕ → Sending → Type 0

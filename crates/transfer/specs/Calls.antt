@@ -1,9 +1,6 @@
 -- What every call of a transfer ensures over all logs, by the state that it finds and the one that it leaves.
 use Rattle.std.specs.Prelude.{ℕ, List, ◌∷◌, Option, Result}
 use Rattle.refusal.specs.declared.Refusal.{Refusal}
-use Rattle.sender.specs.declared.open.OpenSender.{OpenSender}
-use Rattle.sender.specs.declared.sealed.SealedSender.{SealedSender}
-use Rattle.sender.specs.declared.window.Window.{Window}
 use Rattle.receiver.specs.declared.state.Answer.{Answer}
 use Rattle.transfer.specs.declared.Transfer.{Transfer}
 use Rattle.transfer.specs.Log.{Event}
@@ -12,17 +9,9 @@ use Rattle.transfer.specs.Promise.{Promise}
 use Rattle.transfer.specs.Run.{Run}
 use Rattle.transfer.specs.Steps.{coded, fetch_takes, hear_takes}
 
--- the state of a transfer, by its sender's window and source
-abbrev pub state_of : {T C S D R : Type 0} → (T → Window) → (T → S) → Transfer T C S D R → State S D R
-state_of window source x = state (window x.sender) (source x.sender) x.receiver.state x.forward x.reverse
-
--- that of an open one
-abbrev pub open_state : {C S D R : Type 0} → Transfer (OpenSender C S) C S D R → State S D R
-open_state x = state_of (λ s. s.window) (λ s. s.source) x
-
--- that of a sealed one
-abbrev pub sealed_state : {C S D R : Type 0} → Transfer (SealedSender C S) C S D R → State S D R
-sealed_state x = state_of (λ s. s.window) (λ s. s.source) x
+-- the state of a transfer
+abbrev pub state_of : {P C S D R : Type 0} → Transfer P C S D R → State S D R
+state_of x = state x.sender.window x.sender.source x.receiver.state x.forward x.reverse
 
 -- the event of a call, by what its caller sees; its frame is the one that the parts give in the state that it finds
 abbrev pub Call : Type 0 → Type 0 → Type 0 → Type 0

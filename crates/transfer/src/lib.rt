@@ -8,7 +8,7 @@
 ghost use Rattle.std.specs.Prelude.{◌≡◌, ◌<◌, ◌≤◌, [], length, take, Some, None, Err, MatchOption, OnErr};
 ghost use Rattle.refusal.specs.declared.Refusal.TheVariants.{ShortBuffer};
 ghost use Rattle.frame.specs.ReportFrame.{report_of};
-ghost use Rattle.transfer.specs.Calls.{state_of, open_state, sealed_state, admit, seal, send, fetch, hear, GoesOn, Stands};
+ghost use Rattle.transfer.specs.Calls.{state_of, admit, seal, send, fetch, hear, GoesOn, Stands};
 ghost use Rattle.transfer.specs.Parts.{parts, started};
 ghost use Rattle.transfer.specs.Promise.{Promise};
 ghost use Rattle.transfer.specs.Run.{Run};
@@ -19,31 +19,29 @@ use frame::{FRAME_MOST, REPORT_LEN, SYMBOLS, WINDOW, write_report};
 use link::Link;
 use receiver::{Answer, Receiver};
 use refusal::Refusal;
-use sender::{OpenSender, SealedSender, Sends};
+use sender::{Open, OpenSender, Sealed, Sender};
 use source::Source;
-use std::marker::PhantomData;
 
-/// Both ends of one stream, and the links between them: T is the sender, open or sealed.
+/// Both ends of one stream, and the links between them: P is the phase of the sender.
 #[derive(Drop)]
-pub struct Transfer<T, C, S, D, R> {
-    sender: T,
+pub struct Transfer<P, C, S, D, R> {
+    sender: Sender<P, C, S>,
     receiver: Receiver<C>,
     forward: D,
     reverse: R,
-    source: PhantomData<S>,
 }
 
 /// A transfer whose stream still grows.
-pub type OpenTransfer<C, S, D, R> = Transfer<OpenSender<C, S>, C, S, D, R>;
+pub type OpenTransfer<C, S, D, R> = Transfer<Open, C, S, D, R>;
 
 /// A transfer whose stream is whole.
-pub type SealedTransfer<C, S, D, R> = Transfer<SealedSender<C, S>, C, S, D, R>;
+pub type SealedTransfer<C, S, D, R> = Transfer<Sealed, C, S, D, R>;
 
 impl<C: Carried, S: Source, D: Link, R: Link> OpenTransfer<C, S, D, R> {
     /// A transfer before its first packet, over these links.
     pub fn new(source: S, forward: D, reverse: R) -> OpenTransfer<C, S, D, R>
-        ensures exact { open_state result ≡ started 32 source forward reverse }
-        ensures starts { Run 32 (parts C.Field.means C.Carried.carries S.Source.means D.Link.means R.Link.means) source forward reverse [] (open_state result) }
+        ensures exact { state_of result ≡ started 32 source forward reverse }
+        ensures starts { Run 32 (parts C.Field.means C.Carried.carries S.Source.means D.Link.means R.Link.means) source forward reverse [] (state_of result) }
         ensures stands { Promise C.Field.means C.Carried.carries 32 (D.Link.means.waiting forward) (R.Link.means.waiting reverse) [] }
     {
         Transfer {
@@ -51,59 +49,54 @@ impl<C: Carried, S: Source, D: Link, R: Link> OpenTransfer<C, S, D, R> {
             receiver: Receiver::new(),
             forward,
             reverse,
-            source: PhantomData,
         }
     }
 
     /// Hands a packet to the sender, and answers how many were admitted. Refuses what the sender refuses, and then changes
     /// nothing.
     pub fn admit(&mut self, packet: &[u16]) -> Result<u32, Refusal>
-        ensures exact { called result (open_state self.new) ≡ admits 32 (parts C.Field.means C.Carried.carries S.Source.means D.Link.means R.Link.means) (open_state self.old) packet.now }
-        ensures unchanged { OnErr result (open_state self.new ≡ open_state self.old) }
-        ensures goes_on { GoesOn 32 (parts C.Field.means C.Carried.carries S.Source.means D.Link.means R.Link.means) (admit packet.now result) (open_state self.old) (open_state self.new) }
-        ensures stands { Stands 32 (parts C.Field.means C.Carried.carries S.Source.means D.Link.means R.Link.means) (admit packet.now result) (open_state self.old) }
+        ensures exact { called result (state_of self.new) ≡ admits 32 (parts C.Field.means C.Carried.carries S.Source.means D.Link.means R.Link.means) (state_of self.old) packet.now }
+        ensures unchanged { OnErr result (state_of self.new ≡ state_of self.old) }
+        ensures goes_on { GoesOn 32 (parts C.Field.means C.Carried.carries S.Source.means D.Link.means R.Link.means) (admit packet.now result) (state_of self.old) (state_of self.new) }
+        ensures stands { Stands 32 (parts C.Field.means C.Carried.carries S.Source.means D.Link.means R.Link.means) (admit packet.now result) (state_of self.old) }
     {
         self.sender.admit(packet)
     }
 
     /// Ends the stream: the admitted packets are all that there will be.
     pub fn seal(self) -> SealedTransfer<C, S, D, R>
-        ensures exact { sealed_state result ≡ open_state self }
-        ensures goes_on { GoesOn 32 (parts C.Field.means C.Carried.carries S.Source.means D.Link.means R.Link.means) seal (open_state self) (sealed_state result) }
-        ensures stands { Stands 32 (parts C.Field.means C.Carried.carries S.Source.means D.Link.means R.Link.means) seal (open_state self) }
+        ensures exact { state_of result ≡ state_of self }
+        ensures goes_on { GoesOn 32 (parts C.Field.means C.Carried.carries S.Source.means D.Link.means R.Link.means) seal (state_of self) (state_of result) }
+        ensures stands { Stands 32 (parts C.Field.means C.Carried.carries S.Source.means D.Link.means R.Link.means) seal (state_of self) }
     {
         let Transfer {
             sender,
             receiver,
             forward,
             reverse,
-            source,
         } = self;
         Transfer {
             sender: sender.seal(),
             receiver,
             forward,
             reverse,
-            source,
         }
     }
 }
 
-impl<T: Sends<C, S>, C: Carried, S: Source, D: Link, R: Link> Transfer<T, C, S, D, R> {
+impl<P, C: Carried, S: Source, D: Link, R: Link> Transfer<P, C, S, D, R> {
     /// Puts a frame that combines the window's packets on the forward link, and answers its length. Refuses an empty
     /// window, and then changes nothing.
     pub fn send(&mut self) -> Result<usize, Refusal>
-        ensures exact { called result (state_of T.Sends.window T.Sends.source self.new) ≡ sends 32 (parts C.Field.means C.Carried.carries S.Source.means D.Link.means R.Link.means) (state_of T.Sends.window T.Sends.source self.old) }
-        ensures unchanged { OnErr result (state_of T.Sends.window T.Sends.source self.new ≡ state_of T.Sends.window T.Sends.source self.old) }
-        ensures goes_on { GoesOn 32 (parts C.Field.means C.Carried.carries S.Source.means D.Link.means R.Link.means) (send result) (state_of T.Sends.window T.Sends.source self.old) (state_of T.Sends.window T.Sends.source self.new) }
-        ensures stands { Stands 32 (parts C.Field.means C.Carried.carries S.Source.means D.Link.means R.Link.means) (send result) (state_of T.Sends.window T.Sends.source self.old) }
+        ensures exact { called result (state_of self.new) ≡ sends 32 (parts C.Field.means C.Carried.carries S.Source.means D.Link.means R.Link.means) (state_of self.old) }
+        ensures unchanged { OnErr result (state_of self.new ≡ state_of self.old) }
+        ensures goes_on { GoesOn 32 (parts C.Field.means C.Carried.carries S.Source.means D.Link.means R.Link.means) (send result) (state_of self.old) (state_of self.new) }
+        ensures stands { Stands 32 (parts C.Field.means C.Carried.carries S.Source.means D.Link.means R.Link.means) (send result) (state_of self.old) }
     {
         let mut frame = [0; FRAME_MOST];
-        let answer = self.sender.send(&mut frame);
-        if let Ok(length) = answer {
-            self.forward.put(&frame[0..length]);
-        }
-        answer
+        let length = self.sender.send(&mut frame)?;
+        self.forward.put(&frame[..length]);
+        Ok(length)
     }
 
     /// Takes a frame, if there is one, off the forward link and into the receiver, whose answer it gives, and puts the
@@ -111,49 +104,47 @@ impl<T: Sends<C, S>, C: Carried, S: Source, D: Link, R: Link> Transfer<T, C, S, 
     /// number buffer without room for 32 packets, before it takes a frame, and then changes nothing; where the receiver
     /// refuses the frame, the frame is gone, and the report is put all the same.
     pub fn fetch(&mut self, numbers: &mut [u16]) -> Result<Option<Answer>, Refusal>
-        ensures exact { fetched result (state_of T.Sends.window T.Sends.source self.new) numbers.new ≡ fetches 32 (parts C.Field.means C.Carried.carries S.Source.means D.Link.means R.Link.means) (state_of T.Sends.window T.Sends.source self.old) numbers.old }
-        ensures short { length numbers.old < 4096 → (result ≡ Err ShortBuffer) × (state_of T.Sends.window T.Sends.source self.new ≡ state_of T.Sends.window T.Sends.source self.old) × (numbers.new ≡ numbers.old) }
+        ensures exact { fetched result (state_of self.new) numbers.new ≡ fetches 32 (parts C.Field.means C.Carried.carries S.Source.means D.Link.means R.Link.means) (state_of self.old) numbers.old }
+        ensures short { length numbers.old < 4096 → (result ≡ Err ShortBuffer) × (state_of self.new ≡ state_of self.old) × (numbers.new ≡ numbers.old) }
         ensures unchanged { OnErr result ((self.new.sender ≡ self.old.sender) × (self.new.receiver.state ≡ self.old.receiver.state) × (numbers.new ≡ numbers.old)) }
-        ensures goes_on { GoesOn 32 (parts C.Field.means C.Carried.carries S.Source.means D.Link.means R.Link.means) (fetch numbers.old result numbers.new) (state_of T.Sends.window T.Sends.source self.old) (state_of T.Sends.window T.Sends.source self.new) }
-        ensures stands { Stands 32 (parts C.Field.means C.Carried.carries S.Source.means D.Link.means R.Link.means) (fetch numbers.old result numbers.new) (state_of T.Sends.window T.Sends.source self.old) }
+        ensures goes_on { GoesOn 32 (parts C.Field.means C.Carried.carries S.Source.means D.Link.means R.Link.means) (fetch numbers.old result numbers.new) (state_of self.old) (state_of self.new) }
+        ensures stands { Stands 32 (parts C.Field.means C.Carried.carries S.Source.means D.Link.means R.Link.means) (fetch numbers.old result numbers.new) (state_of self.old) }
     {
         if numbers.len() < WINDOW * SYMBOLS {
             return Err(Refusal::ShortBuffer);
         }
-        let mut frame = [0; FRAME_MOST];
-        let Some(length) = take_frame(&mut self.forward, &mut frame) else {
+        let mut buffer = [0; FRAME_MOST];
+        let Some(frame) = take_frame(&mut self.forward, &mut buffer) else {
             return Ok(None);
         };
-        let answer = self.receiver.arrive(&frame[0..length], numbers);
+        let answer = self.receiver.arrive(frame, numbers);
         self.reverse.put(&report_frame(self.receiver.report()));
-        Some(answer).transpose()
+        answer.map(Some)
     }
 
     /// Takes a report, if there is one, off the reverse link and into the sender, whose answer it gives. A report that the
     /// sender refuses is gone, and changes nothing else.
     pub fn hear(&mut self) -> Result<Option<(u32, u32)>, Refusal>
-        ensures exact { called result (state_of T.Sends.window T.Sends.source self.new) ≡ hears 32 (parts C.Field.means C.Carried.carries S.Source.means D.Link.means R.Link.means) (state_of T.Sends.window T.Sends.source self.old) }
-        ensures unchanged { OnErr result (state_of T.Sends.window T.Sends.source self.new ≡ with_heard 32 (parts C.Field.means C.Carried.carries S.Source.means D.Link.means R.Link.means) (T.Sends.window self.old.sender) (state_of T.Sends.window T.Sends.source self.old)) }
-        ensures goes_on { GoesOn 32 (parts C.Field.means C.Carried.carries S.Source.means D.Link.means R.Link.means) (hear result) (state_of T.Sends.window T.Sends.source self.old) (state_of T.Sends.window T.Sends.source self.new) }
-        ensures stands { Stands 32 (parts C.Field.means C.Carried.carries S.Source.means D.Link.means R.Link.means) (hear result) (state_of T.Sends.window T.Sends.source self.old) }
+        ensures exact { called result (state_of self.new) ≡ hears 32 (parts C.Field.means C.Carried.carries S.Source.means D.Link.means R.Link.means) (state_of self.old) }
+        ensures unchanged { OnErr result (state_of self.new ≡ with_heard 32 (parts C.Field.means C.Carried.carries S.Source.means D.Link.means R.Link.means) self.old.sender.window (state_of self.old)) }
+        ensures goes_on { GoesOn 32 (parts C.Field.means C.Carried.carries S.Source.means D.Link.means R.Link.means) (hear result) (state_of self.old) (state_of self.new) }
+        ensures stands { Stands 32 (parts C.Field.means C.Carried.carries S.Source.means D.Link.means R.Link.means) (hear result) (state_of self.old) }
     {
-        let mut frame = [0; FRAME_MOST];
-        let Some(length) = take_frame(&mut self.reverse, &mut frame) else {
+        let mut buffer = [0; FRAME_MOST];
+        let Some(frame) = take_frame(&mut self.reverse, &mut buffer) else {
             return Ok(None);
         };
-        Some(self.sender.hear(&frame[0..length])).transpose()
+        self.sender.hear(frame).map(Some)
     }
 }
 
-// Takes the next frame, if there is one, and answers its length: no link refuses so long a buffer.
-fn take_frame<L: Link>(link: &mut L, buffer: &mut [u8; FRAME_MOST]) -> Option<usize>
-    ensures frame { MatchOption result (L.Link.means.first link.old ≡ None) (λ n. (n ≤ 400) × (L.Link.means.first link.old ≡ Some (take n buffer.new))) }
+// Takes the next frame, if there is one, into the buffer: no link refuses so long a buffer.
+fn take_frame<'a, L: Link>(link: &mut L, buffer: &'a mut [u8; FRAME_MOST]) -> Option<&'a [u8]>
+    ensures frame { MatchOption result (L.Link.means.first link.old ≡ None) (λ frame. L.Link.means.first link.old ≡ Some frame.now) }
     ensures rest { link.new ≡ L.Link.means.rest link.old }
 {
-    match link.take(buffer) {
-        Ok(length) => length,
-        Err(_) => None,
-    }
+    let length = link.take(buffer).ok().flatten()?;
+    Some(&buffer[..length])
 }
 
 // The report as a frame.

@@ -1,18 +1,15 @@
-use Rattle.std.proofs.Common.{refl, ap₂, lit<}
-use Rattle.sender.specs.declared.window.Window.{Window}
-use Rattle.transfer.specs.Calls.{open_state, seal}
-use Rattle.transfer.specs.Parts.{PartsLaws, parts, state}
-use Rattle.transfer.proofs.Following.{call-stands}
+use Rattle.std.proofs.Common.{refl, lit<, rules}
+use Rattle.transfer.specs.Calls.{state_of, seal}
+use Rattle.transfer.proofs.Following.{together, call-stands}
 use Rattle.transfer.proofs.OpenTransfer+C+S+D+R.seal.Goals as goal
 
-pub returns : goal.returns
-returns g c =
-    let p = parts g.C.Field.means g.C.Carried.carries g.S.Source.means g.D.Link.means g.R.Link.means in
-    let σ = open_state c.args.self in
-    let same = ap₂ (λ (x : Window) (s : g.row.S.Denot). state x s σ.receiver σ.forward σ.reverse) c.seal.ensures.window c.seal.ensures.source in
-    let laws : PartsLaws 32 p = record { means = g.met.C.Field.laws; carries = g.met.C.Carried.lays; draws = g.met.S.Source.laws; forward = g.met.D.Link.laws; reverse = g.met.R.Link.laws } in
-    record {
-      exact = same;
-      goes_on = λ source forward reverse log run. (σ, run, same);
-      stands = call-stands 32 (lit< tt) refl p laws σ _ seal same;
-    }
+pub returns-clause-exact : goal.returns-clause-exact
+returns-clause-exact g c = search rules
+
+pub returns-clause-goes_on : goal.returns-clause-goes_on
+returns-clause-goes_on g c = λ source forward reverse log run. (state_of c.args.self, run, returns-clause-exact g c)
+
+pub returns-clause-stands : goal.returns-clause-stands
+returns-clause-stands g c =
+    call-stands (lit< tt) refl (together g.met.C.Field.laws g.met.C.Carried.lays g.met.S.Source.laws g.met.D.Link.laws g.met.R.Link.laws)
+    (state_of c.args.self) _ seal (returns-clause-exact g c)

@@ -1,35 +1,27 @@
-//! A sender that admits packets.
+//! What only an open sender does.
 ghost use Rattle.std.specs.Prelude.{◌≡◌, []};
 ghost use Rattle.sender.specs.Packets.{Appends, Holds};
-ghost use Rattle.sender.specs.Steps.{Sound, admitting, empty};
+ghost use Rattle.sender.specs.Steps.{admitting, empty};
 
-use super::Sends;
-use super::sealed::SealedSender;
-use super::window::Window;
+use super::window::{Window, as_packet};
+use super::{Open, OpenSender, SealedSender, Sender};
 use carried::Carried;
+use frame::{STREAM, WINDOW};
 use refusal::Refusal;
 use source::Source;
 use std::marker::PhantomData;
 
-/// A sender whose stream still grows.
-#[derive(Drop)]
-pub struct OpenSender<C, S> {
-    window: Window,
-    source: S,
-    field: PhantomData<C>,
-    ghost ok: { Sound 32 window },
-}
-
-impl<C: Carried, S: Source> OpenSender<C, S> {
+impl<C: Carried, S: Source> Sender<Open, C, S> {
     /// A sender before its first packet.
     pub fn new(source: S) -> OpenSender<C, S>
         ensures window { result.window ≡ empty 32 }
         ensures source { result.source ≡ source }
         ensures holds { Holds 32 C.Field.means.q [] result.window }
     {
-        OpenSender {
+        Sender {
             window: Window::new(),
             source,
+            phase: PhantomData,
             field: PhantomData,
         }
     }
@@ -41,7 +33,18 @@ impl<C: Carried, S: Source> OpenSender<C, S> {
         ensures source { self.new.source ≡ self.old.source }
         ensures appends { Appends 32 C.Field.means.q packet.now result self.old.window self.new.window }
     {
-        self.window.admit::<C>(packet)
+        let Some(packet) = as_packet::<C>(packet) else {
+            return Err(Refusal::BadPacket);
+        };
+        if self.window.admitted == STREAM {
+            return Err(Refusal::StreamFull);
+        }
+        if self.window.admitted == self.window.heard + WINDOW as u32 {
+            return Err(Refusal::WindowFull);
+        }
+        self.window.packets[self.window.admitted as usize % WINDOW] = *packet;
+        self.window.admitted += 1;
+        Ok(self.window.admitted)
     }
 
     /// Ends the stream: the admitted packets are all that there will be.
@@ -49,29 +52,17 @@ impl<C: Carried, S: Source> OpenSender<C, S> {
         ensures window { result.window ≡ self.window }
         ensures source { result.source ≡ self.source }
     {
-        let OpenSender {
+        let Sender {
             window,
             source,
             field,
+            ..
         } = self;
-        SealedSender {
+        Sender {
             window,
             source,
+            phase: PhantomData,
             field,
         }
-    }
-}
-
-impl<C: Carried, S: Source> Sends<C, S> for OpenSender<C, S> {
-    ghost window = { λ x. x.window };
-
-    ghost source = { λ x. x.source };
-
-    fn send(&mut self, frame: &mut [u8]) -> Result<usize, Refusal> {
-        self.window.send::<C, S>(&mut self.source, frame)
-    }
-
-    fn hear(&mut self, report: &[u8]) -> Result<(u32, u32), Refusal> {
-        self.window.hear(report)
     }
 }
