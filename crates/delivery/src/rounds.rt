@@ -5,7 +5,7 @@ ghost use Rattle.file.specs.Spelling.{spelling_of};
 ghost use Rattle.link.specs.OfScripted.{new_link};
 ghost use Rattle.link.specs.declared.plain.PlainLink.{PlainLink as Queue};
 ghost use Rattle.link.specs.declared.scripted.ScriptedLink.{ScriptedLink as Scripted};
-ghost use Rattle.transfer.specs.Calls.{open_state, sealed_state};
+ghost use Rattle.transfer.specs.Calls.{state_of};
 ghost use Rattle.delivery.specs.Follows.{Follows, Small};
 ghost use Rattle.delivery.specs.Outcome.{linked};
 ghost use Rattle.delivery.specs.Phases.{file_packet, AdmitsOn, Opened, AllMade, CarriesOut, SmallAfter};
@@ -19,7 +19,7 @@ use file::{FILE_MOST, packet, packet_count};
 use job::ShortFile;
 use link::{PlainLink, ScriptedLink};
 use refusal::Refusal;
-use sender::{OpenSender, SealedSender};
+use sender::{Open, Sealed};
 use source::Source;
 use transfer::OpenTransfer;
 
@@ -59,7 +59,7 @@ pub(crate) fn carry<C: Carried, S: Source + Drop>(
     progress.finish(count)
 }
 
-impl<C: Carried, S: Source> Delivery<OpenSender<C, S>, C, S> {
+impl<C: Carried, S: Source> Delivery<Open, C, S> {
     // Rounds until all packets are admitted. Answers how many were made before the one that admits the last, which is
     // still to be ended, or none where the rounds are used up.
     fn open_rounds(
@@ -70,7 +70,7 @@ impl<C: Carried, S: Source> Delivery<OpenSender<C, S>, C, S> {
     ) -> Result<Option<u32>, Refusal>
         requires count { count ≡ packets (spelling_of C.Field.means.q) (length file.bytes.now) }
         requires small { Small 0 self.old.progress self.old.transfer.forward }
-        ensures courses { (c : Course S Scripted Queue) → Follows (linked C.Field.means C.Carried.carries S.Source.means) file.entry.bytes.now buffer.old false 0 c (open_state self.old.transfer) self.old.progress buffer.old → MatchResult result (Opened (linked C.Field.means C.Carried.carries S.Source.means) file.entry.bytes.now buffer.old c (open_state self.new.transfer) self.new.progress buffer.new) (λ _. ⊥) }
+        ensures courses { (c : Course S Scripted Queue) → Follows (linked C.Field.means C.Carried.carries S.Source.means) file.entry.bytes.now buffer.old false 0 c (state_of self.old.transfer) self.old.progress buffer.old → MatchResult result (Opened (linked C.Field.means C.Carried.carries S.Source.means) file.entry.bytes.now buffer.old c (state_of self.new.transfer) self.new.progress buffer.new) (λ _. ⊥) }
         ensures small { IfOk result (λ n. SmallAfter n self.new.progress self.new.transfer.forward) }
     {
         let mut admitted = 0;
@@ -93,7 +93,7 @@ fn admit_all<C: Carried, S: Source>(
     admitted: u32,
 ) -> Result<u32, Refusal>
     requires { (count ≡ packets (spelling_of C.Field.means.q) (length file.bytes.now)) × (admitted ≤ count) }
-    ensures { MatchResult result (λ t. (t ≤ count) × AdmitsOn (linked C.Field.means C.Carried.carries S.Source.means) file.entry.bytes.now C admitted t (open_state transfer.old) (open_state transfer.new) × (transfer.new.forward ≡ transfer.old.forward)) (λ _. ⊥) }
+    ensures { MatchResult result (λ t. (t ≤ count) × AdmitsOn (linked C.Field.means C.Carried.carries S.Source.means) file.entry.bytes.now C admitted t (state_of transfer.old) (state_of transfer.new) × (transfer.new.forward ≡ transfer.old.forward)) (λ _. ⊥) }
 {
     for number in admitted..count {
         let symbols = packet::<C>(file.bytes, number)?;
@@ -104,7 +104,7 @@ fn admit_all<C: Carried, S: Source>(
     Ok(count)
 }
 
-impl<C: Carried, S: Source> Delivery<SealedSender<C, S>, C, S> {
+impl<C: Carried, S: Source> Delivery<Sealed, C, S> {
     // Rounds once the transfer is sealed, until the sender has heard that all is released.
     fn sealed_rounds(
         &mut self,
@@ -113,7 +113,7 @@ impl<C: Carried, S: Source> Delivery<SealedSender<C, S>, C, S> {
         buffer: &mut [u8; FILE_MOST],
     ) -> Result<(), Refusal>
         requires { (made < 64000) × (Small (4 * made) self.old.progress self.old.transfer.forward) }
-        ensures { (file before : List ℕ) (c : Course S Scripted Queue) → Follows (linked C.Field.means C.Carried.carries S.Source.means) file before true count c (sealed_state self.old.transfer) self.old.progress buffer.old → (result ≡ Ok tt) × AllMade (linked C.Field.means C.Carried.carries S.Source.means) file before c (sealed_state self.new.transfer) self.new.progress buffer.new true count (closing 32 (linked C.Field.means C.Carried.carries S.Source.means) (file_packet (linked C.Field.means C.Carried.carries S.Source.means) file) count (64000 - made) c) }
+        ensures { (file before : List ℕ) (c : Course S Scripted Queue) → Follows (linked C.Field.means C.Carried.carries S.Source.means) file before true count c (state_of self.old.transfer) self.old.progress buffer.old → (result ≡ Ok tt) × AllMade (linked C.Field.means C.Carried.carries S.Source.means) file before c (state_of self.new.transfer) self.new.progress buffer.new true count (closing 32 (linked C.Field.means C.Carried.carries S.Source.means) (file_packet (linked C.Field.means C.Carried.carries S.Source.means) file) count (64000 - made) c) }
     {
         for round in made..ROUNDS {
             self.exchange(buffer)?;

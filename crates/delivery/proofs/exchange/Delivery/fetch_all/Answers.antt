@@ -23,7 +23,7 @@ loop-answer-init g c = record {
   room = omega arith;
   small = λ n h. h;
   leads = λ file before shut t d h. fetches_begin g.C.Field.means g.C.Carried.carries g.S.Source.means file before shut t d
-      (state_of g.T.Sends.window g.T.Sends.source c.args.self.now.transfer) c.args.self.now.progress c.args.buffer.now h;
+      (state_of c.args.self.now.transfer) c.args.self.now.progress c.args.buffer.now h;
 }
 
 laws : (g : given.Over) → PartsLaws 32 (linked g.C.Field.means g.C.Carried.carries g.S.Source.means)
@@ -38,8 +38,8 @@ laws g = record {
 pub keep-requires-clause-few : goal.keep-requires-clause-few
 keep-requires-clause-few g c =
     let p = linked g.C.Field.means g.C.Carried.carries g.S.Source.means in
-    let σ = state_of g.T.Sends.window g.T.Sends.source c.loop-answer.self.transfer in
-    let τ = state_of g.T.Sends.window g.T.Sends.source c.fetch.new.self in
+    let σ = state_of c.loop-answer.self.transfer in
+    let τ = state_of c.fetch.new.self in
     let v = c.loop-answer.self.progress in
     let after = c.fetch.new.numbers in
     let room : 4096 ≤ length v.numbers = omega (arith, c.loop-answer.invariant.long) in
@@ -56,8 +56,8 @@ keep-requires-clause-released g c = (c.loop-answer.invariant.small 256004 c.requ
 pub loop-answer-smaller : goal.loop-answer-smaller
 loop-answer-smaller g c =
     let p = linked g.C.Field.means g.C.Carried.carries g.S.Source.means in
-    let σ = state_of g.T.Sends.window g.T.Sends.source c.loop-answer.self.transfer in
-    let τ = state_of g.T.Sends.window g.T.Sends.source c.fetch.new.self in
+    let σ = state_of c.loop-answer.self.transfer in
+    let τ = state_of c.fetch.new.self in
     let v = c.loop-answer.self.progress in
     let after = c.fetch.new.numbers in
     let room : 4096 ≤ length v.numbers = omega (arith, c.loop-answer.invariant.long) in
@@ -68,8 +68,8 @@ loop-answer-smaller g c =
 pub loop-answer-preserved : goal.loop-answer-preserved
 loop-answer-preserved g c =
     let p = linked g.C.Field.means g.C.Carried.carries g.S.Source.means in
-    let σ = state_of g.T.Sends.window g.T.Sends.source c.loop-answer.self.transfer in
-    let τ = state_of g.T.Sends.window g.T.Sends.source c.fetch.new.self in
+    let σ = state_of c.loop-answer.self.transfer in
+    let τ = state_of c.fetch.new.self in
     let v = c.loop-answer.self.progress in
     let after = c.fetch.new.numbers in
     let room : 4096 ≤ length v.numbers = omega (arith, c.loop-answer.invariant.long) in
@@ -96,8 +96,8 @@ pub returns-in_err-keep : goal.returns-in_err-keep
 unfolding LeadsOn
 returns-in_err-keep g c =
     let p = linked g.C.Field.means g.C.Carried.carries g.S.Source.means in
-    let σ = state_of g.T.Sends.window g.T.Sends.source c.loop-answer.self.transfer in
-    let τ = state_of g.T.Sends.window g.T.Sends.source c.fetch.new.self in
+    let σ = state_of c.loop-answer.self.transfer in
+    let τ = state_of c.fetch.new.self in
     let v = c.loop-answer.self.progress in
     let after = c.fetch.new.numbers in
     let room : 4096 ≤ length v.numbers = omega (arith, c.loop-answer.invariant.long) in
@@ -121,8 +121,8 @@ pub returns : goal.returns
 unfolding LeadsOn
 returns g c =
     let p = linked g.C.Field.means g.C.Carried.carries g.S.Source.means in
-    let σ = state_of g.T.Sends.window g.T.Sends.source c.loop-answer.self.transfer in
-    let τ = state_of g.T.Sends.window g.T.Sends.source c.fetch.new.self in
+    let σ = state_of c.loop-answer.self.transfer in
+    let τ = state_of c.fetch.new.self in
     let v = c.loop-answer.self.progress in
     let after = c.fetch.new.numbers in
     let room : 4096 ≤ length v.numbers = omega (arith, c.loop-answer.invariant.long) in

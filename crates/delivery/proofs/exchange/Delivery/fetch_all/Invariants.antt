@@ -17,8 +17,8 @@ invariant-loop-answer g l =
       room : ◌≡◌ {A = ℕ} (length l.buffer) 16000;
       small : (n : ℕ) → Small n l.initial.self.progress l.initial.self.transfer.forward → Small n l.self.progress l.self.transfer.forward;
       leads : (file before : List ℕ) (shut : Bool) (t : ℕ) (c : Course g.row.S.Denot ScriptedLink PlainLink)
-          → Follows p file before shut t c (state_of g.T.Sends.window g.T.Sends.source l.initial.self.transfer) l.initial.self.progress l.initial.buffer
-          → FetchesOn p file before shut t c (state_of g.T.Sends.window g.T.Sends.source l.self.transfer) l.self.progress l.buffer;
+          → Follows p file before shut t c (state_of l.initial.self.transfer) l.initial.self.progress l.initial.buffer
+          → FetchesOn p file before shut t c (state_of l.self.transfer) l.self.progress l.buffer;
     }
 
 abbrev pub decreases-loop-answer : goal.decreases-loop-answer

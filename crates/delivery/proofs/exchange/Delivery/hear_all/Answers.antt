@@ -10,14 +10,14 @@ pub loop-report-init : goal.loop-report-init
 loop-report-init g c = record {
   small = λ n h. h;
   leads = λ buffer file before shut t d h. hears_begin g.C.Field.means g.C.Carried.carries g.S.Source.means file before shut t d
-      (state_of g.T.Sends.window g.T.Sends.source c.args.self.now.transfer) c.args.self.now.progress buffer h;
+      (state_of c.args.self.now.transfer) c.args.self.now.progress buffer h;
 }
 
 pub loop-report-preserved-in-Ok : goal.loop-report-preserved-in-Ok
 loop-report-preserved-in-Ok g c =
     let p = linked g.C.Field.means g.C.Carried.carries g.S.Source.means in
-    let σ = state_of g.T.Sends.window g.T.Sends.source c.loop-report.self.transfer in
-    let τ = state_of g.T.Sends.window g.T.Sends.source c.hear.new.self in
+    let σ = state_of c.loop-report.self.transfer in
+    let τ = state_of c.hear.new.self in
     let v = c.loop-report.self.progress in
     let e = told-some p σ τ c.hear.result c.hear.ensures.exact c.transpose.result c.transpose.ensures (Ok (c.in-Ok.released, c.in-Ok.field-0-1))
     (c.in-Some.is ∙ ap Some c.in-Ok.is) in
@@ -32,8 +32,8 @@ loop-report-preserved-in-Ok g c =
 pub loop-report-preserved : goal.loop-report-preserved
 loop-report-preserved g c =
     let p = linked g.C.Field.means g.C.Carried.carries g.S.Source.means in
-    let σ = state_of g.T.Sends.window g.T.Sends.source c.loop-report.self.transfer in
-    let τ = state_of g.T.Sends.window g.T.Sends.source c.hear.new.self in
+    let σ = state_of c.loop-report.self.transfer in
+    let τ = state_of c.hear.new.self in
     let v = c.loop-report.self.progress in
     let e = told-some p σ τ c.hear.result c.hear.ensures.exact c.transpose.result c.transpose.ensures (Err c.in_default-report.field-0)
     (c.in-Some.is ∙ ap Some c.in_default-report.is) in
@@ -49,8 +49,8 @@ pub returns : goal.returns
 unfolding Leads
 returns g c =
     let p = linked g.C.Field.means g.C.Carried.carries g.S.Source.means in
-    let σ = state_of g.T.Sends.window g.T.Sends.source c.loop-report.self.transfer in
-    let τ = state_of g.T.Sends.window g.T.Sends.source c.hear.new.self in
+    let σ = state_of c.loop-report.self.transfer in
+    let τ = state_of c.hear.new.self in
     let v = c.loop-report.self.progress in
     let e = told-none p σ τ c.hear.result c.hear.ensures.exact c.transpose.result c.transpose.ensures c.in_default.is in
     record {

@@ -15,8 +15,8 @@ invariant-loop-report g l =
     record {
       small : (n : ℕ) → Small n l.initial.self.progress l.initial.self.transfer.forward → Small n l.self.progress l.self.transfer.forward;
       leads : (buffer file before : List ℕ) (shut : Bool) (t : ℕ) (c : Course g.row.S.Denot ScriptedLink PlainLink)
-          → Follows p file before shut t c (state_of g.T.Sends.window g.T.Sends.source l.initial.self.transfer) l.initial.self.progress buffer
-          → HearsOn p file before shut t c (state_of g.T.Sends.window g.T.Sends.source l.self.transfer) l.self.progress buffer;
+          → Follows p file before shut t c (state_of l.initial.self.transfer) l.initial.self.progress buffer
+          → HearsOn p file before shut t c (state_of l.self.transfer) l.self.progress buffer;
     }
 
 abbrev pub decreases-loop-report : goal.decreases-loop-report

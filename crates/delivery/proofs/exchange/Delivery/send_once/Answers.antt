@@ -9,8 +9,8 @@ pub returns-in-Ok : goal.returns-in-Ok
 unfolding Leads
 returns-in-Ok g c =
     let p = linked g.C.Field.means g.C.Carried.carries g.S.Source.means in
-    let σ = state_of g.T.Sends.window g.T.Sends.source c.args.self.now.transfer in
-    let τ = state_of g.T.Sends.window g.T.Sends.source c.send.new.self in
+    let σ = state_of c.args.self.now.transfer in
+    let τ = state_of c.send.new.self in
     let e = c.in-Ok.ensures.exact in
     let few = sent_few g.C.Field.means g.C.Carried.carries g.S.Source.means σ τ _ e in
     record {
@@ -22,8 +22,8 @@ pub returns-in-Err : goal.returns-in-Err
 unfolding Leads
 returns-in-Err g c =
     let p = linked g.C.Field.means g.C.Carried.carries g.S.Source.means in
-    let σ = state_of g.T.Sends.window g.T.Sends.source c.args.self.now.transfer in
-    let τ = state_of g.T.Sends.window g.T.Sends.source c.send.new.self in
+    let σ = state_of c.args.self.now.transfer in
+    let τ = state_of c.send.new.self in
     let e = c.in-Err.ensures.exact in
     let few = sent_few g.C.Field.means g.C.Carried.carries g.S.Source.means σ τ _ e in
     record {
