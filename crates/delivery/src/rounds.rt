@@ -37,23 +37,20 @@ pub(crate) fn carry<C: Carried, S: Source + Drop>(
     ensures { (script : List ℕ) → forward ≡ new_link 16 400 64 script → CarriesOut (linked C.Field.means C.Carried.carries S.Source.means) file.entry.bytes.now source script buffer.old result buffer.new }
 {
     let count = packet_count::<C>(file.bytes.len() as u32);
-    let mut open = Delivery {
-        transfer: OpenTransfer::<C, S, ScriptedLink, PlainLink>::new(
-            source,
-            forward,
-            PlainLink::new(),
-        ),
-        progress: Progress::new(),
-    };
+    let progress = Progress::<C>::new();
+    let transfer = OpenTransfer::<C, S, ScriptedLink, PlainLink>::new(
+        source,
+        forward,
+        PlainLink::new(),
+    );
+    let mut open = Delivery { transfer, progress };
     let opened = open.open_rounds(file, count, buffer)?;
     let Delivery { transfer, progress } = open;
     let Some(made) = opened else {
         return Ok(progress.spent());
     };
-    let mut sealed = Delivery {
-        transfer: transfer.seal(),
-        progress,
-    };
+    let transfer = transfer.seal();
+    let mut sealed = Delivery { transfer, progress };
     sealed.sealed_rounds(made, count, buffer)?;
     let Delivery { progress, .. } = sealed;
     progress.finish(count)

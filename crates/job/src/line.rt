@@ -1,7 +1,7 @@
 //! The job line and the file behind it.
-ghost use Rattle.std.specs.Prelude.{◌≡◌, ◌<◌, ◌≤◌, length, MatchResult, Ok, Err};
-ghost use Rattle.std.specs.Prelude.{MatchOption, Some, None, ◌==◌, position};
+ghost use Rattle.std.specs.Prelude.{◌≡◌, ◌<◌, length, Some, None, Ok, Err, MatchOption, MatchResult, ◌==◌, position};
 ghost use Rattle.refusal.specs.declared.Refusal.TheVariants.{LongFile};
+ghost use Rattle.file.specs.Filled.{File};
 ghost use Rattle.job.specs.Line.{split, FieldRead, SourceRead, parsed};
 
 use file::FILE_MOST;
@@ -88,7 +88,7 @@ pub fn parse(input: &[u8]) -> Result<Job<'_>, Refusal>
 #[derive(Clone, Copy)]
 pub struct ShortFile<'a> {
     pub bytes: &'a [u8],
-    ghost short: { length bytes.now ≤ 16000 },
+    ghost is_file: { File bytes.now },
 }
 
 impl<'a> ShortFile<'a> {

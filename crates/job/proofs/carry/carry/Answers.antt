@@ -21,7 +21,7 @@ returns-in_err-add_all g c =
     let q = g.C.Field.means.q in
     let file = c.args.file.bytes.now in
     let p = c.in_ok-symbols.symbols in
-    let is : p ≡ packet_of (spelling_of q) file c.loop-number.number = packet-is (length file) p _ c.args.file.short c.in_ok-symbols.ensures.exact in
+    let is : p ≡ packet_of (spelling_of q) file c.loop-number.number = packet-is (length file) p _ c.args.file.is_file.short c.in_ok-symbols.ensures.exact in
     let one : c.in_ok-released.released ≡ 1 = cc c.in_ok-released.ensures.answer in
     let took = taken_alone q file p _ c.cross.new.numbers c.loop-number.buffer c.loop-number.number _ _ _ _ c.in_ok-symbols.ensures.codes.0 is
     c.cross.ensures.released one (omega arith) c.add_all.ensures.fills c.in_ok-symbols.ensures.carries (omega arith) c.loop-number.invariant.filled in
@@ -32,7 +32,7 @@ loop-number-preserved g c =
     let q = g.C.Field.means.q in
     let file = c.args.file.bytes.now in
     let p = c.in_ok-symbols.symbols in
-    let is : p ≡ packet_of (spelling_of q) file c.loop-number.number = packet-is (length file) p _ c.args.file.short c.in_ok-symbols.ensures.exact in
+    let is : p ≡ packet_of (spelling_of q) file c.loop-number.number = packet-is (length file) p _ c.args.file.is_file.short c.in_ok-symbols.ensures.exact in
     let one : c.in_ok-released.released ≡ 1 = cc c.in_ok-released.ensures.answer in
     record {
       waits = c.cross.ensures.waits;
