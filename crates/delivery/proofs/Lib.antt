@@ -8,5 +8,6 @@ pub mod Hearing
 pub mod Loops
 pub mod Queues
 pub mod Rounding
+pub mod Judging
 pub mod Sending
 pub mod Texts
