@@ -1,6 +1,6 @@
 use Rattle.std.proofs.Common.{◌≡◌, ℕ, ◌-◌, ◌*◌, ◌≤◌, true, false, length, Ok, Option, Result, sym, refl, ap, ◌∙◌, subst, arith}
 use Rattle.refusal.specs.declared.Refusal.{Refusal}
-use Rattle.link.specs.Waiting.{plain_laws, scripted_laws}
+use Rattle.delivery.proofs.Courses.{linked_laws}
 use Rattle.link.specs.declared.plain.PlainLink.{PlainLink}
 use Rattle.link.specs.declared.scripted.ScriptedLink.{ScriptedLink}
 use Rattle.link.specs.OfScripted.{new_link}
@@ -14,17 +14,7 @@ use Rattle.delivery.specs.Rounds.{seal_it, closing}
 use Rattle.delivery.proofs.Answers.{not_both}
 use Rattle.delivery.proofs.Results.{starts, spent_carries, closed_carries, all_released}
 use Rattle.delivery.proofs.Rounding.{seals}
-use Rattle.delivery.proofs.rounds.carry.Given as given
 use Rattle.delivery.proofs.rounds.carry.Goals as goal
-
-laws : (g : given.Over) → PartsLaws 32 (linked g.C.Field.means g.C.Carried.carries g.S.Source.means)
-laws g = record {
-  means = g.met.C.Field.laws;
-  carries = g.met.C.Carried.lays;
-  draws = g.met.S.Source.laws;
-  forward = scripted_laws 400;
-  reverse = plain_laws 400;
-}
 
 pub returns-in_err-opened : goal.returns-in_err-opened
 returns-in_err-opened g c script e =
@@ -110,6 +100,6 @@ returns g c script e =
     let ω = state_of c.sealed_rounds.new.self.transfer in
     let ends = came.ends ∙ ap (λ (n : ℕ). closing 32 p (file_packet p file) n (64000 - made) sealed-now) all ∙ opened.ends in
     let room : 16000 ≤ length after = omega arith in
-    let released = all_released p source script file before ω u after (laws g) count came.so_far came.follows ends all room in
+    let released = all_released p source script file before ω u after (linked_laws g.C.Field.means g.C.Carried.carries g.S.Source.means g.met.C.Field.laws g.met.C.Carried.lays g.met.S.Source.laws) count came.so_far came.follows ends all room in
     subst (λ (r : Result Outcome Refusal). CarriesOut p file source script before r after) (sym (c.finish.ensures file before after came.follows.filled released))
-    (closed_carries p source script file before ω u after (laws g) count came.so_far came.follows ends all room)
+    (closed_carries p source script file before ω u after (linked_laws g.C.Field.means g.C.Carried.carries g.S.Source.means g.met.C.Field.laws g.met.C.Carried.lays g.met.S.Source.laws) count came.so_far came.follows ends all room)

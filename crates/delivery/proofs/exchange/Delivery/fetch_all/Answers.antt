@@ -1,7 +1,7 @@
 use Rattle.std.proofs.Common.{◌≡◌, ℕ, ◌+◌, ◌*◌, ◌≤◌, List, length, take, None, Ok, refl, ap, ◌∙◌, arith}
 use Rattle.file.proofs.Each.{fills_first_over}
 use Rattle.file.specs.Spelling.{spelling_of}
-use Rattle.link.specs.Waiting.{plain_laws, scripted_laws}
+use Rattle.delivery.proofs.Courses.{linked_laws}
 use Rattle.link.specs.declared.scripted.ScriptedLink.{ScriptedLink}
 use Rattle.job.specs.Counts.{released_by}
 use Rattle.transfer.specs.Calls.{state_of}
@@ -14,7 +14,6 @@ use Rattle.delivery.proofs.Fetches.{with_numbers, fetched-none, fetched-some, ne
 use Rattle.delivery.proofs.Fetching.{answered-none, answered-some, few-fresh, few-released, forward-is}
 use Rattle.delivery.proofs.Loops.{fetches_begin, fetches_end, fetches_fewer, fetches-go_on}
 use Rattle.delivery.proofs.Queues.{popped-few}
-use Rattle.delivery.proofs.exchange.Delivery.fetch_all.Given as given
 use Rattle.delivery.proofs.exchange.Delivery.fetch_all.Goals as goal
 
 pub loop-answer-init : goal.loop-answer-init
@@ -24,15 +23,6 @@ loop-answer-init g c = record {
   small = λ n h. h;
   leads = λ file before shut t d h. fetches_begin g.C.Field.means g.C.Carried.carries g.S.Source.means file before shut t d
       (state_of c.args.self.now.transfer) c.args.self.now.progress c.args.buffer.now h;
-}
-
-laws : (g : given.Over) → PartsLaws 32 (linked g.C.Field.means g.C.Carried.carries g.S.Source.means)
-laws g = record {
-  means = g.met.C.Field.laws;
-  carries = g.met.C.Carried.lays;
-  draws = g.met.S.Source.laws;
-  forward = scripted_laws 400;
-  reverse = plain_laws 400;
 }
 
 pub keep-requires-clause-few : goal.keep-requires-clause-few
@@ -85,7 +75,7 @@ loop-answer-preserved g c =
       small = λ n h. small_kept n a v u (σ.forward) (τ.forward) kept few fewer (c.loop-answer.invariant.small n h);
       leads = λ file before shut t d h.
           let on = c.loop-answer.invariant.leads file before shut t d h in
-          let begins = next_packets p file before shut t on.so_far σ τ v c.loop-answer.buffer on.follows room after (laws g) a e in
+          let begins = next_packets p file before shut t on.so_far σ τ v c.loop-answer.buffer on.follows room after (linked_laws g.C.Field.means g.C.Carried.carries g.S.Source.means g.met.C.Field.laws g.met.C.Carried.lays g.met.S.Source.laws) a e in
           let taken = fills_first_over after (take (128 * released_by a) after) (released_by a) (omega arith) refl (spelling_of g.C.Field.means.q) file v.released
           v.filling.taken v.filling.size c.loop-answer.buffer _ begins c.keep.ensures.fills before on.follows.runs.is_file (omega arith) on.follows.filled in
           fetches-go_on g.C.Field.means g.C.Carried.carries g.S.Source.means file before shut t d σ v τ u c.loop-answer.buffer on after room (some a) e (found_some a)
@@ -110,7 +100,7 @@ returns-in_err-keep g c =
     record {
       leads = λ file before shut t d h.
           let on = c.loop-answer.invariant.leads file before shut t d h in
-          let begins = next_packets p file before shut t on.so_far σ τ v c.loop-answer.buffer on.follows room after (laws g) a e in
+          let begins = next_packets p file before shut t on.so_far σ τ v c.loop-answer.buffer on.follows room after (linked_laws g.C.Field.means g.C.Carried.carries g.S.Source.means g.met.C.Field.laws g.met.C.Carried.lays g.met.S.Source.laws) a e in
           let taken = fills_first_over after (take (128 * released_by a) after) (released_by a) (omega arith) refl (spelling_of g.C.Field.means.q) file v.released
           v.filling.taken v.filling.size c.loop-answer.buffer _ begins c.keep.ensures.fills before on.follows.runs.is_file (omega arith) on.follows.filled in
           absurd (not_both _ _ _ taken.0 c.in_err-keep.was);
