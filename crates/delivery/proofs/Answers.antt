@@ -9,10 +9,6 @@ use Rattle.receiver.specs.declared.state.Answer.TheVariants.{Fresh, Repeat}
 use Rattle.transfer.specs.Steps.{some}
 use Rattle.delivery.specs.Rounds.{found_none}
 
--- an answer is not both
-pub not_both : {A B : Type 0} (r : Result A B) (a : A) (b : B) → r ≡ Ok a → r ≡ Err b → ⊥
-not_both r a b ok err = let z : ◌≡◌ {A = ℕ} 0 1 = cc in omega arith
-
 -- a call that took a frame, and one that took none
 pub transposed_some : {A : Type 0} (r : Result (Option A) Refusal) (a : Result A Refusal) → result_transpose r ≡ Some a → r ≡ some a
 transposed_some (Ok (Some x)) a e = let is : Ok x ≡ a = cc in ap some is

@@ -125,8 +125,7 @@ module _
     took some-came = go (p.forward.first σ.forward) refl is-first
       where
         go : (o : Option (List ℕ)) → p.forward.first σ.forward ≡ o → fetched r τ after ≡ receives 32 p σ numbers o → (f : List ℕ) × (p.forward.first σ.forward ≡ Some f)
-        go None is e =
-            let z : ◌≡◌ {A = ℕ} 0 1 = cc (some-came, ap (λ (z : Fetched S ScriptedLink PlainLink). found_none z.answer) e) in absurd (omega arith)
+        go None is e = absurd (cc (some-came, ap (λ (z : Fetched S ScriptedLink PlainLink). found_none z.answer) e))
         go (Some f) is e = (f, is)
 
     pub logged : (calls : List Arrival) → Logged r numbers after (arriving (fetch_takes 32 p σ numbers) numbers r after calls) calls

@@ -1,5 +1,5 @@
 -- A hear, and what the program keeps of it.
-use Rattle.std.proofs.Common.{◌≡◌, ℕ, Bool, false, ◌&&◌, leb, List, ◌∷◌, Some, None, Ok, Err, Option, Result, sym, refl, ap, ◌∙◌, subst, arith}
+use Rattle.std.proofs.Common.{◌≡◌, ℕ, Bool, false, ◌&&◌, leb, List, ◌∷◌, Some, None, Ok, Err, Option, Result, sym, refl, ap, ◌∙◌, subst}
 use Rattle.std.proofs.lemmas.Bool.{cond_both}
 use Rattle.std.specs.Result.{result_transpose}
 use Rattle.refusal.specs.declared.Refusal.{Refusal}
@@ -58,8 +58,7 @@ module _
     heard_took some-came = go (p.reverse.first σ.reverse) refl e
       where
         go : (o : Option (List ℕ)) → p.reverse.first σ.reverse ≡ o → called r τ ≡ heeds 32 p σ o → (f : List ℕ) × (p.reverse.first σ.reverse ≡ Some f)
-        go None is e =
-            let z : ◌≡◌ {A = ℕ} 0 1 = cc (some-came, ap (λ (z : Called (Option (ℕ × ℕ)) S ScriptedLink PlainLink). found_none z.answer) e) in absurd (omega arith)
+        go None is e = absurd (cc (some-came, ap (λ (z : Called (Option (ℕ × ℕ)) S ScriptedLink PlainLink). found_none z.answer) e))
         go (Some f) is e = (f, is)
 
 module _

@@ -1,11 +1,10 @@
 -- What a run answers, and what it leaves of a buffer whose first 16,000 bytes are carried into.
-use Rattle.std.proofs.Common.{◌≡◌, ℕ, ◌*◌, ◌-◌, ◌<◌, ◌≤◌, Bool, true, false, cond, leb, ltb, List, ◌++◌, length, take, drop, Ok, Err, Result, sym, refl, ap, ◌∙◌, subst, append_assoc, arith, length-take}
+use Rattle.std.proofs.Common.{◌≡◌, ℕ, ◌<◌, ◌≤◌, Bool, true, false, cond, leb, ltb, List, ◌++◌, length, take, drop, Ok, Err, Result, sym, refl, ap, ◌∙◌, subst, append_assoc, arith, length-take}
 use Rattle.std.proofs.lemmas.Bool.{cond_both, cond-true, cond-false, le-leb, le-ltb, lt-leb}
 use Rattle.std.proofs.lemmas.List.{drop-append-le, take-append-drop}
 use Rattle.std.specs.Array.{IsFirstChunk}
 use Rattle.refusal.specs.declared.Refusal.{Refusal}
-use Rattle.refusal.specs.declared.Refusal.TheVariants.{ShortBuffer, BadScript, LongFile}
-use Rattle.file.specs.Spelling.{spelling_of}
+use Rattle.refusal.specs.declared.Refusal.TheVariants.{BadScript, LongFile}
 use Rattle.link.specs.declared.scripted.ScriptedLink.{ScriptedLink}
 use Rattle.link.specs.OfScripted.{new_link, opened_with}
 use Rattle.link.specs.Script.{proper}
@@ -90,5 +89,5 @@ module _ (field : FieldKind) (source : SourceKind) (script file before chunk : L
             cond_both (done log) (Whole (length file)) (Spent (length (released (arrivals log)))) Over
             (λ _ h. wider (length file) file after short h)
             (λ _ h.
-                let n = held_bytes s.parts.means.q file (length (released (arrivals log))) in
-                (wider n (take n file) after (omega arith) h.0, h.1))
+            let n = held_bytes s.parts.means.q file (length (released (arrivals log))) in
+            (wider n (take n file) after (omega arith) h.0, h.1))

@@ -1,5 +1,5 @@
 -- What the program writes of a job that was read.
-use Rattle.std.proofs.Common.{◌≡◌, ℕ, true, eqb, leb, List, [], ◌∷◌, ◌++◌, length, take, drop, codes, Some, None, Ok, Err, Option, Result, sym, refl, ap, ◌∙◌, subst, arith, MatchResult}
+use Rattle.std.proofs.Common.{◌≡◌, ℕ, true, eqb, leb, List, [], ◌∷◌, ◌++◌, length, take, drop, codes, Some, None, Ok, Err, Option, Result, sym, refl, ap, ◌∙◌, subst, MatchResult}
 use Rattle.std.proofs.lemmas.List.{take_at}
 use Rattle.std.proofs.lemmas.Bool.{cond_both, cond-true, leb-true}
 use Rattle.refusal.specs.declared.Refusal.{Refusal}
@@ -54,7 +54,7 @@ module _ (input : List ℕ) (job : Asked) (is : parsed input ≡ Ok job) where
   ran-is = let good = subst Good is (parsed_good input) in cond-true (proper 64 job.script) _ _ good.0 ∙ cond-true (leb (length job.file) 16000) _ _ good.1
 
   never-refused : (why : Refusal) → Err why ≡ ran job.field job.source job.script job.file 16000 → ⊥
-  never-refused why e = let z : ◌≡◌ {A = ℕ} 0 1 = cc (e, ran-is) in omega arith
+  never-refused why e = cc (e, ran-is)
 
   module _ (o : Outcome) (e : Ok o ≡ ran job.field job.source job.script job.file 16000) where
     outcome-known : o ≡ outcome_of job.file (log_of job.field job.source job.script job.file)

@@ -8,9 +8,9 @@ ghost use Rattle.delivery.specs.Follows.{Keeps};
 ghost use Rattle.delivery.specs.Phases.{outcome_from};
 
 use super::outcome::{Ending, Outcome};
-use job::Tally;
 use field::Field;
 use file::{FILE_MOST, Filling};
+use job::Tally;
 use receiver::Answer;
 use refusal::Refusal;
 

@@ -28,14 +28,10 @@ slot-code : (q k : ℕ) → 2 ≤ q → get_or (set (replicate 32 0) 0 1) k 0 < 
 slot-code q zero h = h
 slot-code q (suc k) h = omega (arith, none_past (suc k) (omega arith))
 
--- an answer is not both
-pub not_both : {A B : Type 0} (r : Result A B) (a : A) (b : B) → r ≡ Ok a → r ≡ Err b → ⊥
-not_both r a b ok err = let z : ◌≡◌ {A = ℕ} 0 1 = cc in omega arith
-
 -- an answer that is known, with what holds of it
 pub known_ok : {B : Type 0} (P : ℕ → Type 0) (r : Result ℕ B) (n most : ℕ) → r ≡ Ok n → n ≤ most → IfOk r P → MatchResult r (λ x. (x ≤ most) × P x) (λ _. ⊥)
 known_ok P (Ok x) n most e h p = (let is : x ≡ n = cc in omega arith, p)
-known_ok P (Err b) n most e h p = absurd (not_both (Err b) n b e refl)
+known_ok P (Err b) n most e h p = cc
 
 -- the contents of the frame are in order
 pub alone-proper : (q number : ℕ) (symbols : List ℕ) → 2 ≤ q → number < 65536 → length symbols ≡ 128 → AllBelowBase q symbols

@@ -1,4 +1,4 @@
-use Rattle.std.proofs.Common.{◌≡◌, ◌∙◌, ℕ, length, Ok, ap, arith}
+use Rattle.std.proofs.Common.{◌≡◌, ◌∙◌, length, ap, arith}
 use Rattle.delivery.specs.Outcome.{ran}
 use Rattle.delivery.proofs.Texts.{run_shown}
 use Rattle.delivery.proofs.program.delivered.Goals as goal

@@ -5,7 +5,8 @@ use Rattle.delivery.specs.Follows.{Follows}
 use Rattle.delivery.specs.Outcome.{linked}
 use Rattle.delivery.specs.Phases.{file_packet, count_of, AdmitsOn}
 use Rattle.delivery.specs.Rounds.{admit_all_lem}
-use Rattle.delivery.proofs.Admitting.{packet-is, packet_there, admits-forward, admits_begin, admits_stop, admits-go_on, admits_end}
+use Rattle.job.proofs.Crossing.{packet-is}
+use Rattle.delivery.proofs.Admitting.{packet_there, admits-forward, admits_begin, admits_stop, admits-go_on, admits_end}
 use Rattle.delivery.proofs.rounds.admit_all.Goals as goal
 
 pub loop-number-init : goal.loop-number-init

@@ -1,17 +1,15 @@
-use Rattle.std.proofs.Common.{◌≡◌, ℕ, ◌-◌, ◌*◌, ◌≤◌, true, false, length, Ok, Option, Result, sym, refl, ap, ◌∙◌, subst, arith}
+use Rattle.std.proofs.Common.{ℕ, ◌-◌, ◌*◌, ◌≤◌, true, false, length, Ok, Option, Result, sym, refl, ap, ◌∙◌, subst, arith}
 use Rattle.refusal.specs.declared.Refusal.{Refusal}
 use Rattle.delivery.proofs.Courses.{linked_laws}
 use Rattle.link.specs.declared.plain.PlainLink.{PlainLink}
 use Rattle.link.specs.declared.scripted.ScriptedLink.{ScriptedLink}
-use Rattle.link.specs.OfScripted.{new_link}
 use Rattle.transfer.specs.Calls.{state_of}
-use Rattle.transfer.specs.Parts.{PartsLaws, State, started}
+use Rattle.transfer.specs.Parts.{State}
 use Rattle.delivery.specs.declared.outcome.Outcome.{Outcome}
 use Rattle.delivery.specs.Follows.{Follows, Small}
 use Rattle.delivery.specs.Outcome.{linked, begun}
 use Rattle.delivery.specs.Phases.{file_packet, count_of, Opened, CarriesOut, SmallAfter}
 use Rattle.delivery.specs.Rounds.{seal_it, closing}
-use Rattle.delivery.proofs.Answers.{not_both}
 use Rattle.delivery.proofs.Results.{starts, spent_carries, closed_carries, all_released}
 use Rattle.delivery.proofs.Rounding.{seals}
 use Rattle.delivery.proofs.rounds.carry.Goals as goal
@@ -72,7 +70,7 @@ returns-in_err-sealed_rounds g c script e =
     let sealed-now = seal_it 32 p opened.so_far in
     let τ = state_of c.seal-transfer.result in
     let shut = subst (λ (t : ℕ). Follows p file before true t sealed-now τ v b) (sym all) (seals p file before (count_of p file) opened.so_far σ τ v b opened.follows c.seal-transfer.ensures.exact) in
-    absurd (not_both _ _ _ (c.sealed_rounds.ensures file before sealed-now shut).0 c.in_err-sealed_rounds.was)
+    absurd (cc ((c.sealed_rounds.ensures file before sealed-now shut).0, c.in_err-sealed_rounds.was))
 
 pub returns : goal.returns
 returns g c script e =

@@ -6,7 +6,7 @@ use Rattle.file.proofs.Counts.{room-least}
 use Rattle.file.proofs.Fills.{begins}
 use Rattle.file.proofs.Spellings.{known}
 use Rattle.job.specs.Crossing.{all_fresh}
-use Rattle.job.proofs.Crossing.{not_both, packet-is, kept_ok, taken_alone}
+use Rattle.job.proofs.Crossing.{packet-is, kept_ok, taken_alone}
 use Rattle.job.proofs.carry.carry.Goals as goal
 
 pub cross-requires-clause-packet : goal.cross-requires-clause-packet
@@ -25,7 +25,7 @@ returns-in_err-add_all g c =
     let one : c.in_ok-released.released ≡ 1 = cc c.in_ok-released.ensures.answer in
     let took = taken_alone q file p _ c.cross.new.numbers c.loop-number.buffer c.loop-number.number _ _ _ _ c.in_ok-symbols.ensures.codes.0 is
     c.cross.ensures.released one (omega arith) c.add_all.ensures.fills c.in_ok-symbols.ensures.carries (omega arith) c.loop-number.invariant.filled in
-    absurd (not_both _ _ _ took.0 c.in_err-add_all.was)
+    absurd (cc (took.0, c.in_err-add_all.was))
 
 pub loop-number-preserved : goal.loop-number-preserved
 loop-number-preserved g c =

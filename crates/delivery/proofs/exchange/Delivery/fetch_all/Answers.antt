@@ -1,15 +1,14 @@
-use Rattle.std.proofs.Common.{◌≡◌, ℕ, ◌+◌, ◌*◌, ◌≤◌, List, length, take, None, Ok, refl, ap, ◌∙◌, arith}
+use Rattle.std.proofs.Common.{ℕ, ◌*◌, ◌≤◌, List, length, take, None, Ok, refl, ap, arith}
 use Rattle.file.proofs.Each.{fills_first_over}
 use Rattle.file.specs.Spelling.{spelling_of}
 use Rattle.delivery.proofs.Courses.{linked_laws}
 use Rattle.link.specs.declared.scripted.ScriptedLink.{ScriptedLink}
 use Rattle.job.specs.Counts.{released_by}
 use Rattle.transfer.specs.Calls.{state_of}
-use Rattle.transfer.specs.Parts.{PartsLaws}
 use Rattle.transfer.specs.Steps.{some}
 use Rattle.delivery.specs.Follows.{LeadsOn}
 use Rattle.delivery.specs.Outcome.{linked}
-use Rattle.delivery.proofs.Answers.{not_both, found_some}
+use Rattle.delivery.proofs.Answers.{found_some}
 use Rattle.delivery.proofs.Fetches.{with_numbers, fetched-none, fetched-some, next_packets, small_kept}
 use Rattle.delivery.proofs.Fetching.{answered-none, answered-some, few-fresh, few-released, forward-is}
 use Rattle.delivery.proofs.Loops.{fetches_begin, fetches_end, fetches_fewer, fetches-go_on}
@@ -103,7 +102,7 @@ returns-in_err-keep g c =
           let begins = next_packets p file before shut t on.so_far σ τ v c.loop-answer.buffer on.follows room after (linked_laws g.C.Field.means g.C.Carried.carries g.S.Source.means g.met.C.Field.laws g.met.C.Carried.lays g.met.S.Source.laws) a e in
           let taken = fills_first_over after (take (128 * released_by a) after) (released_by a) (omega arith) refl (spelling_of g.C.Field.means.q) file v.released
           v.filling.taken v.filling.size c.loop-answer.buffer _ begins c.keep.ensures.fills before on.follows.runs.is_file (omega arith) on.follows.filled in
-          absurd (not_both _ _ _ taken.0 c.in_err-keep.was);
+          absurd (cc (taken.0, c.in_err-keep.was));
       small = λ n h. small_kept n a v u (σ.forward) (τ.forward) kept few fewer (c.loop-answer.invariant.small n h);
     }
 

@@ -1,9 +1,9 @@
-use Rattle.std.proofs.Common.{◌≡◌, Some, None, Ok, Err, Result, sym, refl, ap, ◌∙◌, subst, arith}
+use Rattle.std.proofs.Common.{Some, Ok, Err, sym, refl, ap, ◌∙◌, subst}
 use Rattle.transfer.specs.Calls.{state_of}
 use Rattle.delivery.specs.Follows.{Small, Leads}
 use Rattle.delivery.specs.Outcome.{linked}
 use Rattle.delivery.proofs.Hearing.{links_are, with_heard, heard-none, heard-some, heard-refused, told-none, told-some}
-use Rattle.delivery.proofs.Loops.{hears_begin, hears_end, hears_fewer, hears-go_on}
+use Rattle.delivery.proofs.Loops.{hears_begin, hears_end, hears-go_on}
 use Rattle.delivery.proofs.exchange.Delivery.hear_all.Goals as goal
 
 pub loop-report-init : goal.loop-report-init

@@ -7,7 +7,6 @@ use Rattle.delivery.specs.Follows.{Follows, Small, LeadsOn}
 use Rattle.delivery.specs.Outcome.{linked}
 use Rattle.delivery.specs.Phases.{file_packet, count_of, AdmitsOn}
 use Rattle.delivery.specs.Rounds.{admit_all_lem, exchange, rounds}
-use Rattle.delivery.proofs.Answers.{not_both}
 use Rattle.delivery.proofs.Rounding.{done-is, open_round, rounds_close, rounds-go_on, rounds-none}
 use Rattle.delivery.proofs.rounds.Delivery+Open+C+S.open_rounds.Goals as goal
 
@@ -54,7 +53,7 @@ returns-in_err-exchange g c = record {
   courses = λ d h.
       let so_far = c.loop-made.invariant.2 d h in
       let follows = c.in_ok-admitted.ensures.1 c.loop-made.self.progress c.args.buffer.now c.loop-made.buffer so_far.0 so_far.1 in
-      absurd (not_both _ _ _ (c.exchange.ensures.leads c.args.file.bytes.now c.args.buffer.now false _ _ follows).0 c.in_err-exchange.was);
+      absurd (cc ((c.exchange.ensures.leads c.args.file.bytes.now c.args.buffer.now false _ _ follows).0, c.in_err-exchange.was));
   small = let p = err_from_is_err_and c.from_residual-in_err-exchange.result c.from_residual-in_err-exchange.ensures.1 in rw p.1 tt;
 }
 

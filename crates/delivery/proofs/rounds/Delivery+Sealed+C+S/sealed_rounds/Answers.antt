@@ -5,7 +5,6 @@ use Rattle.delivery.specs.Outcome.{linked}
 use Rattle.delivery.specs.Phases.{file_packet}
 use Rattle.delivery.specs.Rounds.{exchange, closing, rounds}
 use Rattle.delivery.specs.Follows.{LeadsOn}
-use Rattle.delivery.proofs.Answers.{not_both}
 use Rattle.delivery.proofs.Rounding.{done-is, closing-none, closing-ends, closing_goes_on, rounds-closing}
 use Rattle.delivery.proofs.rounds.Delivery+Sealed+C+S.sealed_rounds.Goals as goal
 
@@ -13,7 +12,7 @@ pub returns-in_err-exchange : goal.returns-in_err-exchange
 unfolding LeadsOn
 returns-in_err-exchange g c file before d h =
     let so_far = c.loop-round.invariant.1 file before d h in
-    absurd (not_both _ _ _ (c.exchange.ensures.leads file before true c.args.count so_far.0 so_far.1).0 c.in_err-exchange.was)
+    absurd (cc ((c.exchange.ensures.leads file before true c.args.count so_far.0 so_far.1).0, c.in_err-exchange.was))
 
 pub returns-then-self-count : goal.returns-then-self-count
 unfolding LeadsOn
