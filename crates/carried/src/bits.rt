@@ -1,5 +1,5 @@
 //! Bits lie eight to a byte, the first in the highest bit.
-ghost use Rattle.std.specs.Prelude.{◌≡◌, ◌%◌, slice_index};
+ghost use Rattle.std.specs.Prelude.{◌≡◌, ◌%◌, slice_index, refl};
 ghost use Rattle.carried.specs.Layouts.{eight_a_byte};
 ghost use Rattle.carried.specs.BitsLayout.{eight_a_byte_lays};
 
@@ -16,19 +16,19 @@ fn bit(codes: &[u16], i: usize) -> u8
 impl Carried for Bits {
     const KIND: u8 = 1;
 
+    ghost KIND = { 1 };
+
     const LEN: usize = 26;
+
+    ghost LEN = { 26 };
 
     ghost carries = { eight_a_byte };
 
+    ghost kind = { refl };
+
+    ghost len = { refl };
+
     ghost lays = { eight_a_byte_lays };
-
-    fn frame_kind() -> u8 {
-        Self::KIND
-    }
-
-    fn frame_len() -> usize {
-        Self::LEN
-    }
 
     fn byte(codes: &[u16], k: usize) -> u8 {
         if k > codes.len() / 8 {

@@ -1,4 +1,5 @@
 //! Bytes lie one to a byte.
+ghost use Rattle.std.specs.Prelude.{refl};
 ghost use Rattle.carried.specs.Layouts.{one_byte};
 ghost use Rattle.carried.specs.BytesLayout.{one_byte_lays};
 
@@ -8,19 +9,19 @@ use field::Bytes;
 impl Carried for Bytes {
     const KIND: u8 = 2;
 
+    ghost KIND = { 2 };
+
     const LEN: usize = 166;
+
+    ghost LEN = { 166 };
 
     ghost carries = { one_byte };
 
+    ghost kind = { refl };
+
+    ghost len = { refl };
+
     ghost lays = { one_byte_lays };
-
-    fn frame_kind() -> u8 {
-        Self::KIND
-    }
-
-    fn frame_len() -> usize {
-        Self::LEN
-    }
 
     fn byte(codes: &[u16], k: usize) -> u8 {
         (code_at(codes, k) % 256) as u8

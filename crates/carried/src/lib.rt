@@ -1,7 +1,7 @@
 //! How the codes of a field lie in bytes.
 #![tactic(auto)]
 
-ghost use Rattle.std.specs.Prelude.{◌≡◌, length, slice_index};
+ghost use Rattle.std.specs.Prelude.{◌≡◌, ℕ, length, slice_index};
 ghost use Rattle.carried.specs.Carries.{Carries, Lays, packed, unpacked};
 
 mod bits;
@@ -16,18 +16,14 @@ pub trait Carried: Field {
     /// The first byte of a data frame.
     const KIND: u8;
 
+    ghost KIND: { ℕ };
+
     /// The length of a data frame in bytes, at most 400.
     const LEN: usize;
 
+    ghost LEN: { ℕ };
+
     ghost carries: { Carries };
-
-    /// The kind, in the form that a contract of generic code can name.
-    fn frame_kind() -> u8
-        ensures { result ≡ carries.kind };
-
-    /// The length, in the form that a contract of generic code can name.
-    fn frame_len() -> usize
-        ensures { result ≡ carries.len };
 
     /// The byte at place k of the codes.
     fn byte(codes: &[u16], k: usize) -> u8
@@ -41,8 +37,8 @@ pub trait Carried: Field {
     fn pack(codes: &[u16], bytes: &mut [u8])
         ensures { bytes.new ≡ packed carries (length bytes.old) codes.now }
     {
-        for k in 0..bytes.len() {
-            bytes[k] = Self::byte(codes, k);
+        for (k, byte) in bytes.iter_mut().enumerate() {
+            *byte = Self::byte(codes, k);
         }
     }
 
@@ -50,10 +46,14 @@ pub trait Carried: Field {
     fn unpack(bytes: &[u8], codes: &mut [u16])
         ensures { codes.new ≡ unpacked carries (length codes.old) bytes.now }
     {
-        for i in 0..codes.len() {
-            codes[i] = Self::code(bytes, i);
+        for (i, code) in codes.iter_mut().enumerate() {
+            *code = Self::code(bytes, i);
         }
     }
+
+    ghost kind: { KIND ≡ carries.kind };
+
+    ghost len: { LEN ≡ carries.len };
 
     ghost lays: { Lays 32 Self.Field.means.q carries };
 }
@@ -62,12 +62,12 @@ pub trait Carried: Field {
 fn code_at(codes: &[u16], i: usize) -> u16
     ensures { result ≡ slice_index codes.now i }
 {
-    if i < codes.len() { codes[i] } else { 0 }
+    codes.get(i).copied().unwrap_or(0)
 }
 
 // Byte i, or 0 past the end.
 fn byte_at(bytes: &[u8], i: usize) -> u8
     ensures { result ≡ slice_index bytes.now i }
 {
-    if i < bytes.len() { bytes[i] } else { 0 }
+    bytes.get(i).copied().unwrap_or(0)
 }

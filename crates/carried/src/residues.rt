@@ -1,4 +1,5 @@
 //! Residues lie two bytes each, the higher first.
+ghost use Rattle.std.specs.Prelude.{refl};
 ghost use Rattle.carried.specs.Layouts.{two_bytes};
 ghost use Rattle.carried.specs.ResiduesLayout.{two_bytes_lay};
 
@@ -8,19 +9,19 @@ use field::Residues;
 impl Carried for Residues {
     const KIND: u8 = 3;
 
+    ghost KIND = { 3 };
+
     const LEN: usize = 326;
+
+    ghost LEN = { 326 };
 
     ghost carries = { two_bytes };
 
+    ghost kind = { refl };
+
+    ghost len = { refl };
+
     ghost lays = { two_bytes_lay };
-
-    fn frame_kind() -> u8 {
-        Self::KIND
-    }
-
-    fn frame_len() -> usize {
-        Self::LEN
-    }
 
     fn byte(codes: &[u16], k: usize) -> u8 {
         // By a shift, since a choice between two bytes makes slow vector code.

@@ -1,4 +1,4 @@
-pub mod Every
+pub mod Below
 pub mod Fermat
 pub mod Tables
 pub mod Zeros

@@ -1,25 +1,27 @@
 //! The field of two codes: sum and difference are exclusive or, product is and.
+ghost use Rattle.std.specs.Prelude.{refl};
 ghost use Rattle.field.specs.OfBits.{bits};
 ghost use Rattle.field.specs.BitsLaws.{bits_laws};
 ghost use Rattle.field.specs.Remainders.{all_laws};
 
 use super::Field;
+use super::binary::sum;
 
 pub struct Bits;
 
 impl Field for Bits {
     const Q: u16 = 2;
 
+    ghost Q = { 2 };
+
     ghost means = { bits };
+
+    ghost order = { refl };
 
     ghost laws = { all_laws bits_laws };
 
-    fn order() -> u16 {
-        Self::Q
-    }
-
     fn add(a: u16, b: u16) -> u16 {
-        (a % Self::Q) ^ (b % Self::Q)
+        sum::<{ Self::Q }>(a, b)
     }
 
     // Every code is its own negative.
@@ -32,6 +34,6 @@ impl Field for Bits {
     }
 
     fn inverse(a: u16) -> Option<u16> {
-        if a % Self::Q == 0 { None } else { Some(1) }
+        (a % Self::Q != 0).then_some(1)
     }
 }

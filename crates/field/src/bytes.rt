@@ -2,6 +2,7 @@
 //!
 //! The code multiplies by tables of powers and logarithms of 2; the meaning is the product of polynomials and knows
 //! no table, so a wrong entry is a failed proof.
+ghost use Rattle.std.specs.Prelude.{refl};
 ghost use Rattle.field.specs.OfBytes.{bytes};
 ghost use Rattle.field.specs.BytesLaws.{bytes_laws};
 ghost use Rattle.field.specs.Remainders.{all_laws};
@@ -10,6 +11,7 @@ mod logarithms;
 mod powers;
 
 use super::Field;
+use super::binary::sum;
 use logarithms::logarithm;
 use powers::power;
 
@@ -18,16 +20,16 @@ pub struct Bytes;
 impl Field for Bytes {
     const Q: u16 = 256;
 
+    ghost Q = { 256 };
+
     ghost means = { bytes };
+
+    ghost order = { refl };
 
     ghost laws = { all_laws bytes_laws };
 
-    fn order() -> u16 {
-        Self::Q
-    }
-
     fn add(a: u16, b: u16) -> u16 {
-        (a % Self::Q) ^ (b % Self::Q)
+        sum::<{ Self::Q }>(a, b)
     }
 
     // Every code is its own negative.

@@ -5,9 +5,10 @@
 //! crate is written and proved once, for every field.
 #![tactic(auto)]
 
-ghost use Rattle.std.specs.Prelude.{◌≡◌};
+ghost use Rattle.std.specs.Prelude.{◌≡◌, ℕ};
 ghost use Rattle.field.specs.Field.{Means, Laws, plus, minus, times, inverse};
 
+mod binary;
 mod bits;
 mod bytes;
 mod lists;
@@ -23,11 +24,9 @@ pub trait Field {
     /// The order q, the number of codes.
     const Q: u16;
 
-    ghost means: { Means };
+    ghost Q: { ℕ };
 
-    /// The order q, in the form that a contract of generic code can name.
-    fn order() -> u16
-        ensures { result ≡ means.q };
+    ghost means: { Means };
 
     fn add(a: u16, b: u16) -> u16
         ensures { result ≡ plus means a b };
@@ -41,6 +40,8 @@ pub trait Field {
     /// The code whose product with a is 1; absent where a counts as 0.
     fn inverse(a: u16) -> Option<u16>
         ensures { result ≡ inverse means a };
+
+    ghost order: { Q ≡ means.q };
 
     ghost laws: { Laws means };
 }

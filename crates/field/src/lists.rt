@@ -2,28 +2,20 @@
 ghost use Rattle.std.specs.Prelude.{◌≡◌};
 ghost use Rattle.field.specs.Lists.{below, zeros};
 
-/// Whether every number is below the limit. Nearly always all are, so it stops at none: without a way out the loop is
-/// turned into vector code.
+/// Whether every number is below the limit. Nearly always all are, so it looks at all of them: without a way out, as
+/// `all` has, the loop is turned into vector code.
+#[tactic(auto, using(crate::proofs::Below::all_folded, std::proofs::lemmas::Grind::common_steps))]
 pub fn all_below(numbers: &[u16], limit: u16) -> bool
     ensures { result ≡ below limit numbers.now }
 {
-    let mut all = true;
-    for number in numbers {
-        if *number >= limit {
-            all = false;
-        }
-    }
-    all
+    numbers
+        .iter()
+        .fold(true, |all, number| all & (*number < limit))
 }
 
 /// Whether every number is 0.
 pub fn all_zero(numbers: &[u16]) -> bool
     ensures { result ≡ zeros numbers.now }
 {
-    for number in numbers {
-        if *number != 0 {
-            return false;
-        }
-    }
-    true
+    numbers.iter().all(|number| *number == 0)
 }

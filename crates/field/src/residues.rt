@@ -1,4 +1,5 @@
 //! The integers modulo 257, a prime.
+ghost use Rattle.std.specs.Prelude.{refl};
 ghost use Rattle.field.specs.OfResidues.{residues};
 ghost use Rattle.field.specs.ResiduesLaws.{residues_laws};
 ghost use Rattle.field.specs.Remainders.{all_laws};
@@ -10,13 +11,13 @@ pub struct Residues;
 impl Field for Residues {
     const Q: u16 = 257;
 
+    ghost Q = { 257 };
+
     ghost means = { residues };
 
-    ghost laws = { all_laws residues_laws };
+    ghost order = { refl };
 
-    fn order() -> u16 {
-        Self::Q
-    }
+    ghost laws = { all_laws residues_laws };
 
     fn add(a: u16, b: u16) -> u16 {
         (a % Self::Q + b % Self::Q) % Self::Q
@@ -39,6 +40,7 @@ impl Field for Residues {
             return None;
         }
         let mut power = 1;
+        // A loop, since a fold would carry both numbers of a turn in a pair and be no plainer.
         for _turn in 0..8u8 {
             power = Self::mul(power, square);
             square = Self::mul(square, square);

@@ -1,29 +1,35 @@
 -- The number of packets that a file takes.
 use Rattle.std.proofs.Common.{◌≡◌, ℕ, ◌+◌, ◌*◌, ◌/◌, ◌%◌, ◌^◌, ◌<◌, ◌≤◌, min, arith}
 use Rattle.file.specs.declared.spelling.Spelling.{Spelling}
-use Rattle.file.specs.Spelling.{Known}
+use Rattle.file.specs.declared.spelling.Spelling.TheVariants.{Bits, Bytes}
+use Rattle.file.specs.Spelling.{room}
 use Rattle.file.specs.Packets.{packets}
-use Rattle.file.proofs.Spellings.{both}
 
-pub room-least : (s : Spelling) → Known s → 16 ≤ s.room
-room-least = both (λ s. 16 ≤ s.room) (omega arith) (omega arith)
+pub room-least : (s : Spelling) → 16 ≤ room s
+room-least Bits = omega arith
+room-least Bytes = omega arith
 
-pub packets_ceil : (s : Spelling) → Known s → (n : ℕ) → (n + 4) / s.room + min 1 ((n + 4) % s.room) ≡ packets s n
+pub packets_ceil : (s : Spelling) → (n : ℕ) → (n + 4) / room s + min 1 ((n + 4) % room s) ≡ packets s n
 unfolding packets
-packets_ceil = both (λ s. (n : ℕ) → (n + 4) / s.room + min 1 ((n + 4) % s.room) ≡ packets s n) (λ n. omega arith) (λ n. omega arith)
+packets_ceil Bits n = omega arith
+packets_ceil Bytes n = omega arith
 
-pub packets-hold : (s : Spelling) → Known s → (n m : ℕ) → packets s n ≤ m → 4 + n ≤ s.room * m
+pub packets-hold : (s : Spelling) → (n m : ℕ) → packets s n ≤ m → 4 + n ≤ room s * m
 unfolding packets
-packets-hold = both (λ s. (n m : ℕ) → packets s n ≤ m → 4 + n ≤ s.room * m) (λ n m h. omega arith) (λ n m h. omega arith)
+packets-hold Bits n m h = omega arith
+packets-hold Bytes n m h = omega arith
 
-pub packets_pos : (s : Spelling) → Known s → (n : ℕ) → 0 < packets s n
+pub packets_pos : (s : Spelling) → (n : ℕ) → 0 < packets s n
 unfolding packets
-packets_pos = both (λ s. (n : ℕ) → 0 < packets s n) (λ n. omega arith) (λ n. omega arith)
+packets_pos Bits n = omega arith
+packets_pos Bytes n = omega arith
 
-pub packets-least : (s : Spelling) → Known s → (n m : ℕ) → 4 + n ≤ s.room * m → packets s n ≤ m
+pub packets-least : (s : Spelling) → (n m : ℕ) → 4 + n ≤ room s * m → packets s n ≤ m
 unfolding packets
-packets-least = both (λ s. (n m : ℕ) → 4 + n ≤ s.room * m → packets s n ≤ m) (λ n m h. omega arith) (λ n m h. omega arith)
+packets-least Bits n m h = omega arith
+packets-least Bytes n m h = omega arith
 
-pub packets-fit : (s : Spelling) → Known s → (n : ℕ) → n < 2 ^ 32 → packets s n < 2 ^ 32
+pub packets-fit : (s : Spelling) → (n : ℕ) → n < 2 ^ 32 → packets s n < 2 ^ 32
 unfolding packets
-packets-fit = both (λ s. (n : ℕ) → n < 2 ^ 32 → packets s n < 2 ^ 32) (λ n h. omega arith) (λ n h. omega arith)
+packets-fit Bits n h = omega arith
+packets-fit Bytes n h = omega arith

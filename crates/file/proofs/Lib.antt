@@ -1,11 +1,12 @@
 pub mod Carried
 pub mod Counts
-pub mod Digits
+pub mod Numbers
 pub mod Each
 pub mod Beside
 pub mod Fills
-pub mod Spelled
+pub mod Fronts
 pub mod Loads
+pub mod Spelled
 pub mod Spellings
 pub mod Steps
 pub mod Writes

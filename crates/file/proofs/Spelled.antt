@@ -1,71 +1,69 @@
 -- A packet that is written byte by byte.
-use Rattle.std.proofs.Common.{◌≡◌, ℕ, ◌+◌, ◌*◌, ◌<◌, ◌≤◌, List, ◌++◌, length, get_or, take, drop, sym, ap, ◌∙◌, append_assoc, arith}
+use Rattle.std.proofs.Common.{◌≡◌, ℕ, ◌+◌, ◌*◌, ◌<◌, ◌≤◌, List, ◌++◌, length, get_or, take, drop, sym, ap, ap₂, ◌∙◌, arith}
 use borrow.Rule.Slice.PartMut.{put_mid}
 use Rattle.std.specs.List.{between}
 use Rattle.std.proofs.lemmas.List.FromFn.{length-map-range_with_len}
-use Rattle.std.proofs.lemmas.List.Edits.{length-between, split_between}
-use Rattle.std.proofs.lemmas.List.{length-append, length-drop, length-take-le, take_all, take_at}
-use Rattle.std.proofs.lemmas.Slice.{take-put_mid}
+use Rattle.std.proofs.lemmas.List.{length-append, length-drop, length-take-le, take-append-drop, take-take, take_all}
+use Rattle.std.proofs.lemmas.Slice.{between_is, take-put_mid}
 use Rattle.file.specs.declared.spelling.Spelling.{Spelling}
+use Rattle.file.specs.declared.spelling.Spelling.TheVariants.{Bits, Bytes}
 use Rattle.file.specs.Packets.{loaded, packet_of}
-use Rattle.file.specs.Spelling.{Known, digit, spelled}
+use Rattle.file.specs.Spelling.{base, digit, digits, room, spelled}
 use Rattle.file.proofs.Carried.{packet-length, packet_part}
-use Rattle.file.proofs.Spellings.{both}
 
 -- the symbols of byte i lie within the packet, and end where those of the next begin
-pub part-ends : (s : Spelling) → Known s → (i : ℕ) → i < s.room → (s.digits * i + s.digits ≡ s.digits * (i + 1)) × (s.digits * (i + 1) ≤ 128)
-part-ends =
-    both (λ s. (i : ℕ) → i < s.room → (s.digits * i + s.digits ≡ s.digits * (i + 1)) × (s.digits * (i + 1) ≤ 128))
-    (λ i h. (omega arith, omega arith)) (λ i h. (omega arith, omega arith))
+pub part-ends : (s : Spelling) → (i : ℕ) → i < room s → (digits s * i + digits s ≡ digits s * (i + 1)) × (digits s * (i + 1) ≤ 128)
+part-ends Bits i h = (omega arith, omega arith)
+part-ends Bytes i h = (omega arith, omega arith)
 
 -- all bytes are all symbols
-parts_all : (s : Spelling) → Known s → s.digits * s.room ≡ 128
-parts_all = both (λ s. s.digits * s.room ≡ 128) (omega arith) (omega arith)
+parts_all : (s : Spelling) → digits s * room s ≡ 128
+parts_all Bits = omega arith
+parts_all Bytes = omega arith
 
 length-spelled : (b n x : ℕ) → length (spelled b n x) ≡ n
 unfolding spelled
 length-spelled b n x = length-map-range_with_len (digit b n x) 0 n
 
 -- what stands before e stands before a, or from a on
-take-to : (xs : List ℕ) (a e : ℕ) → a ≤ e → e ≤ length xs → take e xs ≡ take a xs ++ between a e xs
-take-to xs a e h l =
-    ap (take e) (split_between xs a e h ∙ sym (append_assoc (take a xs) (between a e xs) (drop e xs)))
-    ∙ take_at (take a xs ++ between a e xs) (drop e xs) e
-    (omega (arith, length-append (take a xs) (between a e xs), length-take-le a xs (omega arith), length-between xs a e l))
+take-to : (xs : List ℕ) (a e : ℕ) → a ≤ e → take e xs ≡ take a xs ++ between a e xs
+take-to xs a e h = sym (take-append-drop a (take e xs)) ∙ ap₂ ◌++◌ (take-take a e xs h) (sym (between_is xs a e))
 
 -- the symbols xs have those of the first i bytes of packet k
 pub record Begun (s : Spelling) (file : List ℕ) (k i : ℕ) (xs : List ℕ) : Type 0 where
   pub long : length xs ≡ 128
-  pub front : take (s.digits * i) xs ≡ take (s.digits * i) (packet_of s file k)
+  pub front : take (digits s * i) xs ≡ take (digits s * i) (packet_of s file k)
 
 pub begun-none : (s : Spelling) (file : List ℕ) (k : ℕ) (xs : List ℕ) → length xs ≡ 128 → Begun s file k 0 xs
 begun-none s file k xs l =
-    let none : s.digits * 0 ≡ 0 = omega arith in
+    let none : digits s * 0 ≡ 0 = omega arith in
     record { long = l; front = ap (λ (n : ℕ). take n xs) none ∙ sym (ap (λ (n : ℕ). take n (packet_of s file k)) none) }
 
 -- the symbols ys of byte i are written, at n places
-pub begun_more : (s : Spelling) → Known s → (file : List ℕ) (k i n : ℕ) (xs ys : List ℕ) → i < s.room → n ≡ s.digits
-    → ys ≡ spelled s.base s.digits (get_or (loaded file) (s.room * k + i) 0)
-    → Begun s file k i xs → Begun s file k (i + 1) (put_mid (s.digits * i) n xs ys)
-begun_more s sk file k i n xs ys h en ey b =
-    let a = s.digits * i in
-    let e = s.digits * (i + 1) in
+pub begun_more : (s : Spelling) → (file : List ℕ) (k i d n : ℕ) (xs ys : List ℕ) → i < room s → d ≡ digits s → n ≡ d
+    → ys ≡ spelled (base s) (digits s) (get_or (loaded file) (room s * k + i) 0)
+    → Begun s file k i xs → Begun s file k (i + 1) (put_mid (d * i) n xs ys)
+begun_more s file k i d n xs ys h ed en ey b =
+    let a = digits s * i in
+    let e = digits s * (i + 1) in
     let packet = packet_of s file k in
-    let ends = part-ends s sk i h in
-    let fills : length ys ≡ s.digits = ap length ey ∙ length-spelled s.base s.digits _ in
+    let ends = part-ends s i h in
+    let fills : length ys ≡ digits s = ap length ey ∙ length-spelled (base s) (digits s) _ in
     let before = length-take-le a xs (omega (arith, ends, b.long)) in
     let rest = drop n (drop a xs) in
-    record {
+    let at : d * i ≡ a = ap (λ (m : ℕ). m * i) ed in
+    rw at
+    (record {
       long =
           omega (arith, ends, b.long, fills, before, length-append (take a xs) (ys ++ rest), length-append ys rest, length-drop n (drop a xs), length-drop a xs);
       front =
           take-put_mid a n xs ys e (omega (arith, ends, fills)) (omega (arith, ends, b.long))
           ∙ ap (λ (l : List ℕ). l ++ ys) b.front
-          ∙ ap (λ (l : List ℕ). take a packet ++ l) (ey ∙ sym (packet_part s sk file k i h))
-          ∙ sym (take-to packet a e (omega (arith, ends)) (omega (arith, ends, packet-length s file k)));
-    }
+          ∙ ap (λ (l : List ℕ). take a packet ++ l) (ey ∙ sym (packet_part s file k i h))
+          ∙ sym (take-to packet a e (omega (arith, ends)));
+    })
 
-pub begun_all : (s : Spelling) → Known s → (file : List ℕ) (k i : ℕ) (xs : List ℕ) → i ≡ s.room → Begun s file k i xs → xs ≡ packet_of s file k
-begun_all s sk file k i xs e b =
-    let all : s.digits * i ≡ 128 = ap (λ (n : ℕ). s.digits * n) e ∙ parts_all s sk in
-    sym (take_all (s.digits * i) xs (omega (arith, b.long))) ∙ b.front ∙ take_all (s.digits * i) (packet_of s file k) (omega (arith, packet-length s file k))
+pub begun_all : (s : Spelling) → (file : List ℕ) (k i : ℕ) (xs : List ℕ) → i ≡ room s → Begun s file k i xs → xs ≡ packet_of s file k
+begun_all s file k i xs e b =
+    let all : digits s * i ≡ 128 = ap (λ (n : ℕ). digits s * n) e ∙ parts_all s in
+    sym (take_all (digits s * i) xs (omega (arith, b.long))) ∙ b.front ∙ take_all (digits s * i) (packet_of s file k) (omega (arith, packet-length s file k))

@@ -1,20 +1,16 @@
 -- The cases of taking and adding a packet.
-use Rattle.std.proofs.Common.{◌≡◌, ℕ, ◌+◌, ◌*◌, ◌<◌, ◌≤◌, Bool, true, false, ◌&&◌, eqb, ltb, List, [], ◌∷◌, length, Ok, Err, Decides, refl, ap, ◌∙◌, arith}
+use Rattle.std.proofs.Common.{◌≡◌, ℕ, zero, suc, ◌+◌, ◌*◌, ◌<◌, ◌≤◌, Bool, true, false, cond, ◌&&◌, eqb, ltb, List, length, Ok, Err, Result, Decides, refl, ap, ◌∙◌, arith}
+use Rattle.refusal.specs.declared.Refusal.{Refusal}
 use Rattle.refusal.specs.declared.Refusal.TheVariants.{ShortBuffer, BadPacket, NotAByte, LongRecord}
-use Rattle.std.proofs.lemmas.Bool.{and_from, cond-true, cond-false, eq-eqb, ne_eqb, leb-false, le-ltb, lt-ltb, not_from_true, not_from_false}
+use Rattle.std.proofs.lemmas.Bool.{and_from, cond-true, cond-false, eq-eqb, ne_eqb, leb-false, le-ltb, lt-leb, lt-ltb, not_from_true, not_from_false}
 use Rattle.std.proofs.lemmas.Bool.Decides.{Decides-ltb}
 use Rattle.std.proofs.ByRecursion.{Decides-by_and}
 use Rattle.std.specs.Int.Digits.{AllBelowBase}
 use Rattle.file.specs.declared.spelling.Spelling.{Spelling}
-use Rattle.field.specs.Lists.{below as below_each}
-use Rattle.file.specs.Filling.{below, complete, length_in, size_with_packet, buffer_with, taking, adding}
-use Rattle.file.specs.Spelling.{Known, spelling_of}
-use Rattle.file.proofs.Spellings.{both}
-
--- the test that field makes of each number is this one
-pub below_in_field : (limit : ℕ) (xs : List ℕ) → below_each limit xs ≡ below limit xs
-below_in_field limit [] = refl
-below_in_field limit (x ∷ xs) = ap (λ (b : Bool). ltb x limit && b) (below_in_field limit xs)
+use Rattle.file.specs.declared.spelling.Spelling.TheVariants.{Bits, Bytes}
+use Rattle.field.specs.Lists.{below}
+use Rattle.file.specs.Filling.{Outcome, adding, buffer_with, checked, complete, length_in, size_with_packet, taking}
+use Rattle.file.specs.Spelling.{base, room, spelling_of}
 
 -- the test of each number, as a fact
 decided : (limit : ℕ) (xs : List ℕ) → Decides (below limit xs) (AllBelowBase limit xs)
@@ -26,12 +22,16 @@ under limit xs = (decided limit xs).0
 pub under_below : (limit : ℕ) (xs : List ℕ) → AllBelowBase limit xs → below limit xs ≡ true
 under_below limit xs = (decided limit xs).1
 
--- while bytes are lacking, few packets were taken
-pub few : (s : Spelling) → Known s → (taken size : ℕ) → complete s taken size ≡ false → 16 * taken < 4 + size
+-- while bytes are lacking, the packets taken end before the file
+pub lacks : (s : Spelling) (taken size : ℕ) → complete s taken size ≡ false → room s * taken < 4 + size
 unfolding complete
-few =
-    both (λ s. (taken size : ℕ) → complete s taken size ≡ false → 16 * taken < 4 + size)
-    (λ t n e. omega (arith, leb-false (4 + n) (16 * t) e)) (λ t n e. omega (arith, leb-false (4 + n) (128 * t) e))
+lacks s taken size e = leb-false (4 + size) (room s * taken) e
+
+-- and so they are few
+pub few : (s : Spelling) → (taken size : ℕ) → complete s taken size ≡ false → 16 * taken < 4 + size
+unfolding complete
+few Bits taken size e = omega (arith, leb-false (4 + size) (16 * taken) e)
+few Bytes taken size e = omega (arith, leb-false (4 + size) (128 * taken) e)
 
 module _ (s : Spelling) (taken size : ℕ) (packet : List ℕ) where
   pub size-first : taken ≡ 0 → size_with_packet s taken size packet ≡ length_in s packet
@@ -41,6 +41,14 @@ module _ (s : Spelling) (taken size : ℕ) (packet : List ℕ) where
   pub size_later : (taken ≡ 0 → ⊥) → size_with_packet s taken size packet ≡ size
   unfolding size_with_packet
   size_later ne = cond-false _ _ _ (ne_eqb taken 0 ne)
+
+-- the length that a packet tells leaves the file as far from complete
+pub still_lacks : (s : Spelling) (taken size : ℕ) (packet : List ℕ) → complete s taken size ≡ false → complete s taken (size_with_packet s taken size packet) ≡ false
+unfolding complete
+still_lacks s zero size packet e =
+    let none : room s * 0 ≡ 0 = omega arith in
+    lt-leb (4 + size_with_packet s 0 size packet) (room s * 0) (omega arith)
+still_lacks s (suc n) size packet e = ap (λ (m : ℕ). complete s (suc n) m) (size_later s (suc n) size packet (λ z. omega arith)) ∙ e
 
 module _ (s : Spelling) (taken size : ℕ) (packet buffer : List ℕ) where
   pub takes_none : complete s taken size ≡ true → taking s taken size packet buffer ≡ (Ok tt, taken, size, buffer)
@@ -62,16 +70,36 @@ module _ (q taken size : ℕ) (packet buffer : List ℕ) where
   unfolding adding
   adds_short h = cond-true _ _ _ (lt-ltb _ _ h)
 
-  pub adds_bad : 16000 ≤ length buffer → (eqb (length packet) 128 && below q packet) ≡ false → adding q taken size packet buffer ≡ (Err BadPacket, taken, size, buffer)
-  unfolding adding
-  adds_bad h e = cond-false _ _ _ (le-ltb _ _ h) ∙ cond-true _ _ _ (not_from_false _ e)
+  -- a refusal of the check is the answer, and else what follows
+  abbrev unless_refused : Outcome → Result (Unit {0}) Refusal → Outcome
+  unless_refused after (Ok _) = after
+  unless_refused after (Err why) = (Err why, taken, size, buffer)
 
-  pub adds_no_byte : 16000 ≤ length buffer → length packet ≡ 128 → below q packet ≡ true → below (spelling_of q).base packet ≡ false → adding q taken size packet buffer ≡ (Err NotAByte, taken, size, buffer)
-  unfolding adding
-  adds_no_byte h l e b =
-      cond-false _ _ _ (le-ltb _ _ h) ∙ cond-false _ _ _ (not_from_true _ (and_from _ _ (eq-eqb _ _ l) e)) ∙ cond-true _ _ _ (not_from_false _ b)
+  by_check : (a b : Bool) (after : Outcome)
+      → cond a (Err BadPacket, taken, size, buffer) (cond b (Err NotAByte, taken, size, buffer) after) ≡ unless_refused after (cond a (Err BadPacket) (cond b (Err NotAByte) (Ok tt)))
+  by_check true b after = refl
+  by_check false true after = refl
+  by_check false false after = refl
 
-  pub adds_bytes : 16000 ≤ length buffer → length packet ≡ 128 → below q packet ≡ true → below (spelling_of q).base packet ≡ true → adding q taken size packet buffer ≡ taking (spelling_of q) taken size packet buffer
-  unfolding adding
-  adds_bytes h l e b =
-      cond-false _ _ _ (le-ltb _ _ h) ∙ cond-false _ _ _ (not_from_true _ (and_from _ _ (eq-eqb _ _ l) e)) ∙ cond-false _ _ _ (not_from_true _ b)
+  checks : 16000 ≤ length buffer → adding q taken size packet buffer ≡ unless_refused (taking (spelling_of q) taken size packet buffer) (checked q packet)
+  unfolding adding checked
+  checks h = cond-false _ _ _ (le-ltb _ _ h) ∙ by_check _ _ (taking (spelling_of q) taken size packet buffer)
+
+  pub adds_refused : 16000 ≤ length buffer → (why : Refusal) → checked q packet ≡ Err why → adding q taken size packet buffer ≡ (Err why, taken, size, buffer)
+  adds_refused h why e = checks h ∙ ap (unless_refused (taking (spelling_of q) taken size packet buffer)) e
+
+  pub adds_bytes : 16000 ≤ length buffer → checked q packet ≡ Ok tt → adding q taken size packet buffer ≡ taking (spelling_of q) taken size packet buffer
+  adds_bytes h e = checks h ∙ ap (unless_refused (taking (spelling_of q) taken size packet buffer)) e
+
+module _ (q : ℕ) (packet : List ℕ) where
+  pub checked_bad : (eqb (length packet) 128 && below q packet) ≡ false → checked q packet ≡ Err BadPacket
+  unfolding checked
+  checked_bad e = cond-true _ _ _ (not_from_false _ e)
+
+  pub checked_no_byte : length packet ≡ 128 → below q packet ≡ true → below (base (spelling_of q)) packet ≡ false → checked q packet ≡ Err NotAByte
+  unfolding checked
+  checked_no_byte l e b = cond-false _ _ _ (not_from_true _ (and_from _ _ (eq-eqb _ _ l) e)) ∙ cond-true _ _ _ (not_from_false _ b)
+
+  pub checked_bytes : length packet ≡ 128 → below q packet ≡ true → below (base (spelling_of q)) packet ≡ true → checked q packet ≡ Ok tt
+  unfolding checked
+  checked_bytes l e b = cond-false _ _ _ (not_from_true _ (and_from _ _ (eq-eqb _ _ l) e)) ∙ cond-false _ _ _ (not_from_true _ b)

@@ -3,6 +3,7 @@ use Rattle.std.specs.Prelude.{◌≡◌, ℕ, ◌+◌, ◌*◌, ◌/◌, ◌<◌
 use Rattle.file.specs.declared.spelling.Spelling.{Spelling}
 use Rattle.file.specs.Filling.{Outcome, packet_in}
 use Rattle.file.specs.Packets.{packets, packet_of}
+use Rattle.file.specs.Spelling.{room}
 
 -- a list of numbers is a file of at most 16,000 bytes
 pub record File (file : List ℕ) : Type 0 where
@@ -14,7 +15,7 @@ pub record File (file : List ℕ) : Type 0 where
 pub record Filled (s : Spelling) (file : List ℕ) (k taken size : ℕ) (buffer : List ℕ) : Type 0 where
   pub counted : taken ≡ min k (packets s (length file))
   pub known : 0 < k → size ≡ length file
-  pub stands : (place : ℕ) → place < length file → place + 4 < s.room * k → slice_index buffer place ≡ slice_index file place
+  pub stands : (place : ℕ) → place < length file → place + 4 < room s * k → slice_index buffer place ≡ slice_index file place
 
 -- the answer is Ok, and the first k packets of the file were taken
 abbrev pub Took : Spelling → List ℕ → ℕ → Outcome → Type 0
@@ -27,7 +28,7 @@ Fills s packet taken size buffer after =
 
 -- but for the bytes of the file that its first k packets hold, the buffer is as before
 pub record Beside (s : Spelling) (file : List ℕ) (k : ℕ) (before buffer : List ℕ) : Type 0 where
-  pub left : (place : ℕ) → (place < length file → place + 4 < s.room * k → ⊥) → slice_index buffer place ≡ slice_index before place
+  pub left : (place : ℕ) → (place < length file → place + 4 < room s * k → ⊥) → slice_index buffer place ≡ slice_index before place
   pub long : length buffer ≡ length before
 
 -- the first k packets of the file were taken into a buffer, and nothing else was written there

@@ -1,24 +1,25 @@
 //! The record that a file's packets fill.
 ghost use Rattle.std.specs.Prelude.{◌≡◌, ℕ, ◌+◌, ◌*◌, ◌<◌, ◌≤◌, true, false, List, length, Ok, Err};
 ghost use Rattle.refusal.specs.declared.Refusal.TheVariants.{Incomplete, ShortBuffer};
-ghost use Rattle.std.specs.Int.Digits.{AllBelowBase};
 ghost use Rattle.file.specs.Filled.{Filled, Fills, FillsAll, FillsAllOver, FillsOver};
-ghost use Rattle.file.specs.Filling.{adding, adding_each, below, buffer_with, complete, packets_in, size_with_packet, taking};
+ghost use Rattle.file.specs.Filling.{adding, adding_each, buffer_with, complete, packets_in, size_with_packet, taking};
 ghost use Rattle.file.specs.Packets.{packets};
-ghost use Rattle.file.specs.Spelling.{spelling_of, Known};
+ghost use Rattle.file.specs.Spelling.{room, spelling_of};
 
+use super::digits::Digits;
 use super::spelling::Spelling;
 use super::whole::Whole;
 use super::{FILE_MOST, SYMBOLS};
 use field::Field;
 use refusal::Refusal;
+use std::array;
 use std::marker::PhantomData;
 
 /// A record that takes a file's packets in order.
 #[derive(Drop)]
 pub struct Filling<F> {
     taken: u32,
-    // The file's length, or 0 while no packet has told it.
+    // The file's length, or 0 while no packet has told it: `taken` tells if one has, and an Option would repeat that.
     size: usize,
     field: PhantomData<F>,
     ghost short: { size ≤ 16000 },
@@ -44,16 +45,11 @@ impl<F: Field> Filling<F> {
         ensures fills { Fills (spelling_of F.means.q) packet.now self.old.taken self.old.size buffer.old (result, self.new.taken, self.new.size, buffer.new) }
         ensures fills_over { FillsOver (spelling_of F.means.q) packet.now self.old.taken self.old.size buffer.old (result, self.new.taken, self.new.size, buffer.new) }
     {
-        if buffer.len() < FILE_MOST {
+        let Some(buffer) = buffer.first_chunk_mut() else {
             return Err(Refusal::ShortBuffer);
-        }
-        if packet.len() != SYMBOLS || !all_below(packet, F::order()) {
-            return Err(Refusal::BadPacket);
-        }
-        if !all_below(packet, Spelling::of::<F>().base) {
-            return Err(Refusal::NotAByte);
-        }
-        self.take_packet(packet, buffer)
+        };
+        let packet = Digits::of(packet)?;
+        self.take_packet(&packet, buffer)
     }
 
     /// Takes the packets that stand one after another in the numbers, up to the first refusal. Numbers past the last
@@ -70,46 +66,41 @@ impl<F: Field> Filling<F> {
     }
 
     // Takes a packet of bytes.
-    fn take_packet(&mut self, packet: &[u16], buffer: &mut [u8]) -> Result<(), Refusal>
-        requires { (16000 ≤ length buffer.old) × ((length packet.now ≡ 128) × (AllBelowBase (spelling_of F.means.q).base packet.now)) }
-        ensures { (result, self.new.taken, self.new.size, buffer.new) ≡ taking (spelling_of F.means.q) self.old.taken self.old.size packet.now buffer.old }
+    fn take_packet(
+        &mut self,
+        packet: &Digits<'_, F>,
+        buffer: &mut [u8; FILE_MOST],
+    ) -> Result<(), Refusal>
+        ensures { (result, self.new.taken, self.new.size, buffer.new) ≡ taking (spelling_of F.means.q) self.old.taken self.old.size packet.now.symbols.now buffer.old }
     {
         if self.is_complete() {
             return Ok(());
         }
-        let spelling = Spelling::of::<F>();
-        let size = self.size_with(spelling, packet);
+        let size = self.size_with(packet);
         if size > FILE_MOST {
             return Err(Refusal::LongRecord);
         }
-        write(spelling, self.taken, size, packet, buffer);
+        write(self.taken, size, packet, buffer);
         self.taken += 1;
         self.size = size;
         Ok(())
     }
 
     // The file's length, which the first packet begins with.
-    fn size_with(&self, spelling: Spelling, packet: &[u16]) -> usize
-        requires { (Known spelling) × ((length packet.now ≡ 128) × (AllBelowBase spelling.base packet.now)) }
-        ensures { result ≡ size_with_packet spelling self.now.taken self.now.size packet.now }
+    fn size_with(&self, packet: &Digits<'_, F>) -> usize
+        ensures { result ≡ size_with_packet (spelling_of F.means.q) self.now.taken self.now.size packet.now.symbols.now }
     {
         if self.taken > 0 {
             return self.size;
         }
-        let bytes = [
-            spelling.packet_byte(packet, 0),
-            spelling.packet_byte(packet, 1),
-            spelling.packet_byte(packet, 2),
-            spelling.packet_byte(packet, 3),
-        ];
-        u32::from_be_bytes(bytes) as usize
+        u32::from_be_bytes(array::from_fn(|i| packet.byte(i))) as usize
     }
 
     // Whether all bytes of the file are there; the four of its length are the first.
     fn is_complete(&self) -> bool
         ensures { result ≡ complete (spelling_of F.means.q) self.now.taken self.now.size }
     {
-        4 + self.size <= Spelling::of::<F>().room * self.taken as usize
+        4 + self.size <= Spelling::of::<F>().room() * self.taken as usize
     }
 
     /// The whole record, where all bytes of the file are there.
@@ -125,22 +116,18 @@ impl<F: Field> Filling<F> {
     }
 }
 
-// Whether each of the numbers is below the limit.
-fn all_below(numbers: &[u16], limit: u16) -> bool
-    ensures { result ≡ below limit numbers.now }
-{
-    field::all_below(numbers, limit)
-}
-
 // Writes the bytes of the file that the packet after the taken ones holds at their places.
-fn write(spelling: Spelling, taken: u32, size: usize, packet: &[u16], buffer: &mut [u8])
-    requires { (Known spelling) × ((length packet.now ≡ 128) × ((AllBelowBase spelling.base packet.now) × (size ≤ length buffer.old))) }
-    ensures { buffer.new ≡ buffer_with spelling taken size packet.now buffer.old }
+fn write<F: Field>(taken: u32, size: usize, packet: &Digits<'_, F>, buffer: &mut [u8; FILE_MOST])
+    requires { (size ≤ 16000) × (complete (spelling_of F.means.q) taken size ≡ false) }
+    ensures { buffer.new ≡ buffer_with (spelling_of F.means.q) taken size packet.now.symbols.now buffer.old }
 {
     // The packet's first byte is this one of all that the packets hold, and the file's bytes come after four others.
-    let first = spelling.room * taken as usize;
-    let end = size.min(first + spelling.room - 4);
-    for place in first.saturating_sub(4)..end {
-        buffer[place] = spelling.packet_byte(packet, place + 4 - first);
+    let room = Spelling::of::<F>().room();
+    let first = room * taken as usize;
+    let start = first.saturating_sub(4);
+    let end = size.min(first + room - 4);
+    let skipped = start + 4 - first;
+    for (i, byte) in buffer[start..end].iter_mut().enumerate() {
+        *byte = packet.byte(skipped + i);
     }
 }

@@ -5,6 +5,7 @@
 //! then shows the file: `Filling` has no `show`, and `Whole` no `add`.
 #![tactic(auto)]
 
+mod digits;
 mod filling;
 mod packets;
 mod spelling;
@@ -18,4 +19,5 @@ pub use whole::Whole;
 pub const FILE_MOST: usize = 16_000;
 
 /// The symbols of a packet.
+// As in the crate of frames: neither of the two crates stands on the other.
 pub const SYMBOLS: usize = 128;

@@ -4,7 +4,7 @@ ghost use Rattle.refusal.specs.declared.Refusal.TheVariants.{LongFile};
 ghost use Rattle.std.specs.Int.Digits.{AllBelowBase};
 ghost use Rattle.file.specs.Filled.{File};
 ghost use Rattle.file.specs.Packets.{loaded, packets, packet_of};
-ghost use Rattle.file.specs.Spelling.{spelling_of};
+ghost use Rattle.file.specs.Spelling.{room, spelling_of};
 
 use super::spelling::Spelling;
 use super::{FILE_MOST, SYMBOLS};
@@ -14,10 +14,10 @@ use refusal::Refusal;
 /// How many packets a file of this many bytes takes: the least number that holds the length and the file.
 pub fn packet_count<F: Field>(size: u32) -> u32
     ensures exact { result ≡ packets (spelling_of F.means.q) size }
-    ensures enough { 4 + size ≤ (spelling_of F.means.q).room * result }
-    ensures least { (n : ℕ) → 4 + size ≤ (spelling_of F.means.q).room * n → result ≤ n }
+    ensures enough { 4 + size ≤ room (spelling_of F.means.q) * result }
+    ensures least { (n : ℕ) → 4 + size ≤ room (spelling_of F.means.q) * n → result ≤ n }
 {
-    (size as usize + 4).div_ceil(Spelling::of::<F>().room) as u32
+    (size as usize + 4).div_ceil(Spelling::of::<F>().room()) as u32
 }
 
 /// Packet `number` of the file, which is zeros where the file ended before it.
@@ -30,14 +30,13 @@ pub fn packet<F: Field>(file: &[u8], number: u32) -> Result<[u16; 128], Refusal>
         return Err(Refusal::LongFile);
     }
     let spelling = Spelling::of::<F>();
-    let start = spelling.room * number as usize;
+    let digits = spelling.digits();
+    let start = spelling.room() * number as usize;
     let mut symbols = [0; SYMBOLS];
-    for i in 0..spelling.room {
-        let at = spelling.digits * i;
-        spelling.spell(
-            held(file, start + i),
-            &mut symbols[at..at + spelling.digits],
-        );
+    // By place: no proof knows what `chunks_exact_mut` wrote, and a loop over symbols took bits 0.28 ms a file longer.
+    for i in 0..spelling.room() {
+        let at = digits * i;
+        spelling.spell(held(file, start + i), &mut symbols[at..at + digits]);
     }
     Ok(symbols)
 }
@@ -51,8 +50,5 @@ fn held(file: &[u8], i: usize) -> u8
     if i < length.len() {
         return length[i];
     }
-    match file.get(i - length.len()) {
-        Some(byte) => *byte,
-        None => 0,
-    }
+    file.get(i - length.len()).copied().unwrap_or(0)
 }

@@ -3,78 +3,73 @@
 //! A symbol is a digit of a byte, and the highest digit comes first. In a field of order 256 or more one symbol is
 //! the whole byte; in any other a symbol is a bit.
 ghost use Rattle.std.specs.Prelude.{◌≡◌, ◌<◌, length};
-ghost use Rattle.std.specs.Int.Digits.{number_from_digits, AllBelowBase};
-ghost use Rattle.file.specs.Spelling.{spelling_of, Known, digit, spelled, byte_of};
+ghost use Rattle.file.specs.Spelling.{base, digit, digits, room, spelled, spelling_of};
 
 use field::Field;
 
-#[derive(Clone, Copy)]
-pub(crate) struct Spelling {
-    /// What each symbol is a digit to.
-    pub(crate) base: u16,
-    /// How many symbols spell a byte.
-    pub(crate) digits: usize,
-    /// How many bytes a packet spells.
-    pub(crate) room: usize,
+#[derive(Clone, Copy, Debug, PartialEq, Eq)]
+pub(crate) enum Spelling {
+    Bits,
+    Bytes,
 }
 
 impl Spelling {
     /// How the symbols of the field spell bytes.
     pub(crate) fn of<F: Field>() -> Spelling
-        ensures exact { result ≡ spelling_of F.means.q }
-        ensures known { Known result }
+        ensures { result ≡ spelling_of F.means.q }
     {
-        if F::order() < 256 {
-            Spelling {
-                base: 2,
-                digits: 8,
-                room: 16,
-            }
+        if F::Q < 256 {
+            Spelling::Bits
         } else {
-            Spelling {
-                base: 256,
-                digits: 1,
-                room: 128,
-            }
+            Spelling::Bytes
+        }
+    }
+
+    /// What each symbol is a digit to.
+    pub(crate) fn base(self) -> u16
+        ensures { result ≡ base self }
+    {
+        match self {
+            Spelling::Bits => 2,
+            Spelling::Bytes => 256,
+        }
+    }
+
+    /// How many symbols spell a byte.
+    pub(crate) fn digits(self) -> usize
+        ensures { result ≡ digits self }
+    {
+        match self {
+            Spelling::Bits => 8,
+            Spelling::Bytes => 1,
+        }
+    }
+
+    /// How many bytes a packet spells.
+    pub(crate) fn room(self) -> usize
+        ensures { result ≡ room self }
+    {
+        match self {
+            Spelling::Bits => 16,
+            Spelling::Bytes => 128,
         }
     }
 
     /// The symbol at a place among those that spell the byte.
     pub(crate) fn symbol(self, byte: u8, place: usize) -> u16
-        requires { (Known self) × (place < self.digits) }
-        ensures { result ≡ digit self.base self.digits byte place }
+        requires { place < digits self }
+        ensures { result ≡ digit (base self) (digits self) byte place }
     {
         // Below a symbol's place there are bits, or nothing.
-        (u16::from(byte) >> (self.digits - 1 - place)) % self.base
+        (u16::from(byte) >> (self.digits() - 1 - place)) % self.base()
     }
-
     /// Writes the symbols that spell the byte.
     pub(crate) fn spell(self, byte: u8, symbols: &mut [u16])
-        requires { (Known self) × (length symbols.old ≡ self.digits) }
-        ensures { symbols.new ≡ spelled self.base self.digits byte }
+        requires { length symbols.old ≡ digits self }
+        ensures { symbols.new ≡ spelled (base self) (digits self) byte }
     {
-        for place in 0..symbols.len() {
-            symbols[place] = self.symbol(byte, place);
+        for (place, symbol) in symbols.iter_mut().enumerate() {
+            *symbol = self.symbol(byte, place);
         }
-    }
-
-    /// The byte that the symbols spell.
-    pub(crate) fn byte(self, symbols: &[u16]) -> u8
-        requires { (Known self) × ((length symbols.now ≡ self.digits) × (AllBelowBase self.base symbols.now)) }
-        ensures { result ≡ number_from_digits self.base symbols.now }
-    {
-        let mut byte = 0;
-        for symbol in symbols {
-            byte = byte * self.base + *symbol;
-        }
-        byte as u8
-    }
-
-    /// Byte i of a packet.
-    pub(crate) fn packet_byte(self, packet: &[u16], i: usize) -> u8
-        requires { (Known self) × ((length packet.now ≡ 128) × ((AllBelowBase self.base packet.now) × (i < self.room))) }
-        ensures { result ≡ byte_of self packet.now i }
-    {
-        self.byte(&packet[self.digits * i..self.digits * (i + 1)])
     }
 }

@@ -28,9 +28,9 @@ impl Whole {
         ensures exact { elim result [ Ok shown ↦ (16000 ≤ length buffer.now) × (shown.now ≡ take self.now.size buffer.now) | Err why ↦ (length buffer.now < 16000) × (why ≡ ShortBuffer) ] }
         ensures shows { (q : ℕ) (file : List ℕ) (k taken : ℕ) → Filled (spelling_of q) file k taken self.now.size buffer.now → packets (spelling_of q) (length file) ≤ k → elim result [ Ok shown ↦ shown.now ≡ file | Err why ↦ length buffer.now < 16000 ] }
     {
-        if buffer.len() < FILE_MOST {
+        let Some(buffer) = buffer.first_chunk::<FILE_MOST>() else {
             return Err(Refusal::ShortBuffer);
-        }
+        };
         Ok(&buffer[..self.length()])
     }
 }

@@ -1,4 +1,3 @@
-pub mod Every
 pub mod Frames
 pub mod Heads
 pub mod Parts

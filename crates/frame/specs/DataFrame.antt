@@ -1,16 +1,12 @@
 -- Data frames: what a frame says, the rules of its contents, and the frame that writing gives.
-use Rattle.std.specs.Prelude.{ℕ, ◌+◌, ◌*◌, ◌/◌, Bool, true, cond, ◌&&◌, List, [], ◌∷◌, ◌++◌, take, drop, Some, None, Option, Result, nat_eq, nat_le, nat_lt, slice_index}
+use Rattle.std.specs.Prelude.{ℕ, ◌+◌, ◌*◌, ◌/◌, Bool, cond, ◌&&◌, List, ◌∷◌, ◌++◌, take, drop, Some, None, Option, Result, nat_le, slice_index}
 use Rattle.refusal.specs.declared.Refusal.{Refusal}
 use Rattle.refusal.specs.declared.Refusal.TheVariants.{BadWidth, BadCode, StraySlot}
 use Rattle.field.specs.Field.{Means}
+use Rattle.field.specs.Lists.{below, zeros}
 use Rattle.frame.specs.declared.data.Data.{Data}
 use Rattle.carried.specs.Carries.{Carries, packed, unpacked}
 use Rattle.frame.specs.Head.{misfit, too_short, first, verdict, written, four_bytes, number_at}
-
--- every number of a list passes a test
-abbrev pub every : (ℕ → Bool) → List ℕ → Bool
-every test [] = true
-every test (x ∷ xs) = test x && every test xs
 
 -- the width is from 1 to w, and the row ends within the stream of 65536 packets
 abbrev pub fits_stream_lem : ℕ → Data → Bool
@@ -18,11 +14,11 @@ fits_stream_lem w d = nat_le 1 d.width && nat_le d.width w && nat_le (d.base + d
 
 -- the slots and the symbols are codes
 abbrev pub codes_only_lem : ℕ → Data → Bool
-codes_only_lem q d = every (λ x. nat_lt x q) d.slots && every (λ x. nat_lt x q) d.symbols
+codes_only_lem q d = below q d.slots && below q d.symbols
 
 -- the slots from the width on are 0
 abbrev pub none_stray_lem : Data → Bool
-none_stray_lem d = every (λ x. nat_eq x 0) (drop d.width d.slots)
+none_stray_lem d = zeros (drop d.width d.slots)
 
 -- the first rule that a frame's contents break
 abbrev pub flaw : ℕ → ℕ → Data → Option Refusal

@@ -1,11 +1,12 @@
 //! Data frames as bytes.
-ghost use Rattle.std.specs.Prelude.{◌≡◌, ◌≤◌, length, take, drop, IfOk, Ok, OnErr, OnOk, nat_eq, nat_lt};
+ghost use Rattle.std.specs.Prelude.{◌≡◌, ◌≤◌, length, take, drop, IfOk, Ok, OnErr, OnOk};
 ghost use Rattle.frame.specs.Head.{verdict};
-ghost use Rattle.frame.specs.DataFrame.{bytes_for, codes_only_lem, contents_by, every, fits_stream_lem, flaw, frame_of, none_stray_lem, reading, writing};
+ghost use Rattle.frame.specs.DataFrame.{bytes_for, codes_only_lem, contents_by, fits_stream_lem, flaw, frame_of, none_stray_lem, reading, writing};
 ghost use Rattle.frame.specs.Proper.{Proper};
 
 use super::{STREAM, SYMBOLS, WINDOW, misfit};
 use carried::Carried;
+use field::{all_below, all_zero};
 use refusal::Refusal;
 
 /// What a data frame says: slot i holds the coefficient of packet base + i, and every other coefficient is 0.
@@ -20,25 +21,11 @@ pub struct Data {
 // Kind, base and width.
 const HEAD: usize = 6;
 
-// Whether every number is below q.
-fn all_below(codes: &[u16], q: u16) -> bool
-    ensures { result ≡ every (λ x. nat_lt x q) codes.now }
-{
-    field::all_below(codes, q)
-}
-
-// Whether every number is 0.
-fn all_zero(codes: &[u16]) -> bool
-    ensures { result ≡ every (λ x. nat_eq x 0) codes.now }
-{
-    field::all_zero(codes)
-}
-
 // How many bytes the slots take: their share of the body.
 fn slot_bytes<C: Carried>() -> usize
     ensures { result ≡ bytes_for C.carries 32 }
 {
-    (C::frame_len() - HEAD) * WINDOW / (WINDOW + SYMBOLS)
+    (C::LEN - HEAD) * WINDOW / (WINDOW + SYMBOLS)
 }
 
 // Whether the width is from 1 to the window, and the row ends within the stream.
@@ -52,9 +39,9 @@ fn fits_stream(data: &Data) -> bool
 
 // Whether the slots and the symbols are codes.
 fn codes_only<C: Carried>(data: &Data) -> bool
-    ensures { result ≡ codes_only_lem C.Field.means.q «data».now }
+    ensures { result ≡ codes_only_lem C.Q «data».now }
 {
-    all_below(&data.slots, C::order()) && all_below(&data.symbols, C::order())
+    all_below(&data.slots, C::Q) && all_below(&data.symbols, C::Q)
 }
 
 // Whether the slots from the width on are 0.
@@ -67,7 +54,7 @@ fn none_stray(data: &Data) -> bool
 
 // The rules of a frame's contents, in the order of their refusals.
 fn check<C: Carried>(data: &Data) -> Result<(), Refusal>
-    ensures { result ≡ verdict (flaw C.Field.means.q 32 «data».now) tt }
+    ensures { result ≡ verdict (flaw C.Q 32 «data».now) tt }
 {
     if !fits_stream(data) {
         return Err(Refusal::BadWidth);
@@ -104,16 +91,16 @@ fn contents<C: Carried>(base: u32, width: u8, body: &[u8]) -> Data
 /// A frame that can be read has proper contents, and is exactly what writing them gives.
 pub fn read_data<C: Carried>(frame: &[u8]) -> Result<Data, Refusal>
     ensures exact { result ≡ reading C.Field.means C.carries 32 frame.now }
-    ensures proper { IfOk result (Proper C.Field.means.q 32) }
+    ensures proper { IfOk result (Proper C.Q 32) }
     ensures canonical { IfOk result (λ d. frame.now ≡ frame_of C.carries 32 d) }
 {
     let [kind, b0, b1, b2, b3, width, body @ ..] = frame else {
-        return Err(misfit(frame, C::frame_kind()));
+        return Err(misfit(frame, C::KIND));
     };
-    if *kind != C::frame_kind() {
+    if *kind != C::KIND {
         return Err(Refusal::WrongKind);
     }
-    if frame.len() != C::frame_len() {
+    if frame.len() != C::LEN {
         return Err(Refusal::WrongLength);
     }
     let base = u32::from_be_bytes([*b0, *b1, *b2, *b3]);
@@ -124,13 +111,13 @@ pub fn read_data<C: Carried>(frame: &[u8]) -> Result<Data, Refusal>
 
 // Fills a frame of the kind's length.
 fn fill<C: Carried>(data: &Data, frame: &mut [u8])
-    requires { length frame.old ≡ C.carries.len }
+    requires { length frame.old ≡ C.LEN }
     ensures exact { frame.new ≡ frame_of C.carries 32 «data».now }
     ensures slots { length «data».now.slots ≡ 32 }
     ensures symbols { length «data».now.symbols ≡ 128 }
 {
     let [b0, b1, b2, b3] = data.base.to_be_bytes();
-    frame[0..HEAD].copy_from_slice(&[C::frame_kind(), b0, b1, b2, b3, data.width]);
+    frame[0..HEAD].copy_from_slice(&[C::KIND, b0, b1, b2, b3, data.width]);
     let middle = HEAD + slot_bytes::<C>();
     C::pack(&data.slots, &mut frame[HEAD..middle]);
     C::pack(&data.symbols, &mut frame[middle..]);
@@ -139,17 +126,16 @@ fn fill<C: Carried>(data: &Data, frame: &mut [u8])
 /// Writes a data frame at the buffer's start, leaves the rest, and answers the frame's length.
 pub fn write_data<C: Carried>(data: &Data, frame: &mut [u8]) -> Result<usize, Refusal>
     ensures exact { (result, frame.new) ≡ writing C.Field.means C.carries 32 «data».now frame.old }
-    ensures accepts { Proper C.Field.means.q 32 «data».now → C.carries.len ≤ length frame.old → result ≡ Ok C.carries.len }
-    ensures proper { OnOk result (Proper C.Field.means.q 32 «data».now) }
+    ensures accepts { Proper C.Q 32 «data».now → C.LEN ≤ length frame.old → result ≡ Ok C.LEN }
+    ensures proper { OnOk result (Proper C.Q 32 «data».now) }
     ensures comes_back { IfOk result (λ n. reading C.Field.means C.carries 32 (take n frame.new) ≡ Ok «data».now) }
     ensures rest_left { IfOk result (λ n. drop n frame.new ≡ drop n frame.old) }
     ensures nothing_written { OnErr result (frame.new ≡ frame.old) }
 {
-    let len = C::frame_len();
-    if frame.len() < len {
+    if frame.len() < C::LEN {
         return Err(Refusal::ShortBuffer);
     }
     check::<C>(data)?;
-    fill::<C>(data, &mut frame[0..len]);
-    Ok(len)
+    fill::<C>(data, &mut frame[0..C::LEN]);
+    Ok(C::LEN)
 }

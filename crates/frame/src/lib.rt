@@ -68,7 +68,7 @@ mod tests {
         buffer: &mut [u8],
         bytes: &[u8],
     ) -> Result<(), Fail> {
-        assert_eq!(rt; write_data::<C>(data, buffer)?, C::frame_len());
+        assert_eq!(rt; write_data::<C>(data, buffer)?, C::LEN);
         let buffer: &[u8] = buffer;
         assert_eq!(rt; buffer, bytes);
         Ok(())

@@ -1,8 +1,6 @@
-use Rattle.std.proofs.Common.{◌≡◌, ℕ, ◌<◌, ◌≤◌, get_or}
-use Rattle.file.specs.Filling.{byte_with}
+use Rattle.std.proofs.Common.{◌≡◌, ℕ, ◌+◌, ◌<◌, get_or}
+use Rattle.file.specs.Spelling.{byte_of, spelling_of}
 use Rattle.file.proofs.filling.write.Given as goal
 
-abbrev pub invariant-loop-place : goal.invariant-loop-place
-invariant-loop-place l =
-    ((k : ℕ) → k < l.place → get_or l.buffer k 0 ≡ byte_with l.spelling l.taken l.size l.packet l.initial.buffer k)
-    × ((k : ℕ) → l.place ≤ k → get_or l.buffer k 0 ≡ get_or l.initial.buffer k 0)
+abbrev pub invariant-loop-i : goal.invariant-loop-i
+invariant-loop-i g l = (k : ℕ) → k < l.i → get_or l.byte-items k 0 ≡ byte_of (spelling_of g.F.Field.means.q) l.packet.symbols.now (l.skipped + k)

@@ -1,5 +1,5 @@
-use Rattle.std.proofs.Common.{ℕ, ◌-◌, List, get_or, sym, ap, ◌∙◌, arith}
-use Rattle.std.proofs.lemmas.List.{get_or_past}
+use Rattle.std.proofs.Common.{ℕ, List, get_or, sym, ap, ◌∙◌, arith, rules}
+use Rattle.std.proofs.lemmas.Option.{gets}
 use Rattle.file.proofs.Loads.{four, loaded-length, loaded-file}
 use Rattle.file.proofs.packets.held.Goals as goal
 
@@ -8,10 +8,5 @@ returns-then-i-lt4 c =
     ap (λ (bytes : List ℕ). get_or bytes c.args.i 0) (c.to_be_bytes-length.ensures ∙ sym (four _))
     ∙ sym (loaded-length c.args.file.now c.args.i (omega arith))
 
-pub returns-in-Some : goal.returns-in-Some
-returns-in-Some c = c.in-Some.ensures.lookup.3.1 0 ∙ sym (loaded-file c.args.file.now c.args.i (omega arith))
-
-pub returns-in-None : goal.returns-in-None
-returns-in-None c =
-    sym (loaded-file c.args.file.now c.args.i (omega arith)
-    ∙ get_or_past c.args.file.now (c.args.i - 4) 0 c.in-None.ensures.lookup.3)
+pub returns : goal.returns
+returns c = search (rules, gets) ∙ sym (loaded-file c.args.file.now c.args.i (omega arith))
