@@ -35,12 +35,11 @@ impl Carried for Bits {
             return 0;
         }
         let group = &codes[8 * k..];
-        let high = 128 * bit(group, 0)
-            + 64 * bit(group, 1)
-            + 32 * bit(group, 2)
-            + 16 * bit(group, 3);
-        let low = 8 * bit(group, 4) + 4 * bit(group, 5) + 2 * bit(group, 6) + bit(group, 7);
-        high + low
+        let mut byte = 0;
+        for j in 0..8 {
+            byte += bit(group, j) << (7 - j);
+        }
+        byte
     }
 
     fn code(bytes: &[u8], i: usize) -> u16 {

@@ -1,18 +1,18 @@
 -- Data frames: writing and reading undo each other, and what can be read is proper.
-use Rattle.std.proofs.Common.{◌≡◌, ℕ, ◌+◌, ◌-◌, ◌*◌, ◌/◌, ◌%◌, ◌<◌, ◌≤◌, List, [], ◌∷◌, ◌++◌, length, get_or, take, drop, IfOk, IfErr, Some, None, Ok, Err, Option, Result, sym, refl, ap, ◌∙◌, subst, mul_assoc, add-mul, arith, lit<}
+use Rattle.std.proofs.Common.{◌≡◌, ℕ, ◌+◌, ◌*◌, ◌/◌, ◌%◌, ◌<◌, ◌≤◌, List, [], ◌∷◌, ◌++◌, length, get_or, take, drop, IfOk, None, Ok, Option, Result, sym, refl, ap, ◌∙◌, subst, mul_assoc, add-mul, arith, lit<}
 use Rattle.std.proofs.lemmas.Slice.Eq.{text_from_reads}
-use Rattle.std.proofs.lemmas.List.{take-append-drop, take_at, drop_at, get_or-drop, length-drop, length-append, length-take, length-take-le, get_or-take, take_rest}
+use Rattle.std.proofs.lemmas.List.{take-append-drop, take_at, drop_at, get_or-drop, length-drop, length-append, length-take, length-take-le, get_or-take}
 use Rattle.refusal.specs.declared.Refusal.{Refusal}
 use Rattle.field.specs.Field.{Means}
 use Rattle.carried.specs.Carries.{Carries, Lays, Under, packed, unpacked}
 use Rattle.carried.specs.Places.{below, length-packed, length-unpacked}
 use Rattle.frame.specs.declared.data.Data.{Data}
-use Rattle.frame.specs.DataFrame.{flaw, bytes_for, frame_of, contents_by, contents, reading, writing}
+use Rattle.frame.specs.DataFrame.{flaw, bytes_for, frame_of, contents, reading, writing}
 use Rattle.frame.specs.Head.{misfit, too_short, first, verdict, written, four_bytes, number_at}
 use Rattle.frame.specs.Proper.{Proper}
 use Rattle.frame.proofs.Heads.{fitting, fitted, number_back, bytes_back}
-use Rattle.frame.proofs.Rules.{proper, flawless}
-use Rattle.frame.proofs.Verdicts.{first_later, first-none, roomy, verdict_made, written_made, written-refused}
+use Rattle.frame.proofs.Rules.{proper}
+use Rattle.frame.proofs.Verdicts.{first_later, first-none, roomy, verdict_made, written_made}
 
 under_take : (m k : ℕ) (xs : List ℕ) → Under m xs → Under m (take k xs)
 under_take m k xs u i h =
@@ -27,24 +27,7 @@ under_drop m k xs u i h =
 same_data : (b b' n n' : ℕ) (s s' y y' : List ℕ) → b ≡ b' → n ≡ n' → s ≡ s' → y ≡ y' → ◌≡◌ {A = Data} record { base = b; width = n; slots = s; symbols = y } record { base = b'; width = n'; slots = s'; symbols = y' }
 same_data b b' n n' s s' y y' e f g h = cc
 
--- the contents of a frame, from its base and what lies past its head
-pub contents-is : (c : Carries) (w base : ℕ) (bs : List ℕ) → base ≡ number_at bs 1 → contents_by c w base (get_or bs 5 0) (take (length bs - 6) (drop 6 bs)) ≡ contents c w bs
-contents-is c w base bs e =
-    ap (contents_by c w base (get_or bs 5 0)) (take_rest bs 6) ∙ ap (λ (n : ℕ). contents_by c w n (get_or bs 5 0) (drop 6 bs)) e
-
--- the verdict on a frame that fits is that on its contents
-pub read_as : (m : Means) (c : Carries) (w : ℕ) (bs : List ℕ) (d : Data) (o : Option Refusal) → misfit c.kind c.len bs ≡ None → d ≡ contents c w bs → flaw m.q w d ≡ o → verdict o d ≡ reading m c w bs
-read_as m c w bs d o fits same e =
-    ap (λ (x : Option Refusal). verdict x d) (sym (first_later _ _ fits ∙ e))
-    ∙ ap (λ (x : Data). verdict (first (misfit c.kind c.len bs) (flaw m.q w x)) x) same
-
 -- the outcome of writing into a buffer with room, by the flaw of what is written
-pub write_refused : (m : Means) (c : Carries) (w : ℕ) (d : Data) (buffer : List ℕ) (r : Result ℕ Refusal) (x : Refusal) → r ≡ Err x → c.len ≤ length buffer → flaw m.q w d ≡ Some x → (r, buffer) ≡ writing m c w d buffer
-write_refused m c w d buffer r x is room e =
-    let why : first (too_short c.len buffer) (flaw m.q w d) ≡ Some x = first_later _ _ (roomy c.len buffer room) ∙ e in
-    ap (λ (r : Result ℕ Refusal). (r, buffer)) is
-    ∙ ap (λ (o : Option Refusal). written o c.len (frame_of c w d) buffer) (sym why)
-
 pub write_done : (m : Means) (c : Carries) (w : ℕ) (d : Data) (buffer : List ℕ) (len n : ℕ) (frame : List ℕ) → len ≡ c.len → n ≡ len → len ≤ length buffer → flaw m.q w d ≡ None → frame ≡ frame_of c w d → (Ok len, frame ++ drop n buffer) ≡ writing m c w d buffer
 write_done m c w d buffer len n frame is same room none e =
     let why : first (too_short c.len buffer) (flaw m.q w d) ≡ None = first_later _ _ (roomy c.len buffer (omega arith)) ∙ none in
@@ -147,25 +130,7 @@ module _ (m : Means) {w : ℕ} {c : Carries} (lays : Lays w m.q c) (whole : w % 
     none_flawed : first (too_short c.len buffer) (flaw m.q w d) ≡ None → flaw m.q w d ≡ None
     none_flawed none = (first-none (too_short c.len buffer) (flaw m.q w d) none).1
 
-    pub accepts : Proper m.q w d → c.len ≤ length buffer → r ≡ Ok c.len
-    accepts p h =
-        ap (λ (v : Result ℕ Refusal × List ℕ). v.0) e
-        ∙ ap (λ (o : Option Refusal). (written o c.len (frame_of c w d) buffer).0) (first_later _ _ (roomy c.len buffer h) ∙ flawless m.q w d p)
-
-    pub rest-left : IfOk r (λ n. drop n out ≡ drop n buffer)
-    rest-left =
-        written_made (λ n out. drop n out ≡ drop n buffer) _ c.len (frame_of c w d) buffer r out e (λ _.
-        drop_at (frame_of c w d) (drop c.len buffer) c.len (frame-length d))
-
-    pub nothing_written : IfErr r (λ _. out ≡ buffer)
-    nothing_written = written-refused _ c.len (frame_of c w d) buffer r out e
-
     module _ (slots : length d.slots ≡ w) (symbols : length d.symbols ≡ 128) where
-      pub written-proper : IfOk r (λ _. Proper m.q w d)
-      written-proper =
-          written_made (λ _ _. Proper m.q w d) _ c.len (frame_of c w d) buffer r out e (λ none.
-          proper m.q w d slots symbols (none_flawed none))
-
       pub comes_back : IfOk r (λ n. reading m c w (take n out) ≡ Ok d)
       comes_back =
           written_made (λ n out. reading m c w (take n out) ≡ Ok d) _ c.len (frame_of c w d) buffer r out e (λ none.

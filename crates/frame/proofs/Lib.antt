@@ -1,6 +1,5 @@
 pub mod Frames
 pub mod Heads
-pub mod Parts
 pub mod Reports
 pub mod Rules
 pub mod Verdicts

@@ -1,5 +1,5 @@
 -- What an answer says when it comes from the first refusal that holds.
-use Rattle.std.proofs.Common.{◌≡◌, ℕ, ◌≤◌, List, ◌++◌, length, drop, IfOk, IfErr, Some, None, Ok, Err, Option, Result, sym, refl, ap, subst, arith}
+use Rattle.std.proofs.Common.{◌≡◌, ℕ, ◌≤◌, List, ◌++◌, length, drop, IfOk, IfErr, Some, None, Ok, Option, Result, sym, refl, ap, subst, arith}
 use Rattle.std.proofs.lemmas.Bool.{cond-true, le-leb}
 use Rattle.refusal.specs.declared.Refusal.{Refusal}
 use Rattle.frame.specs.Head.{first, too_short, verdict, written}
@@ -14,10 +14,6 @@ first_later a b e = ap (λ (x : Option Refusal). first x b) e
 pub none-from_ok : (o : Option Refusal) → verdict o (tt {0}) ≡ Ok tt → o ≡ None
 none-from_ok None e = refl
 none-from_ok (Some x) e = absurd (let z : ◌≡◌ {A = ℕ} 0 1 = cc in omega arith)
-
-pub some-from_err : (o : Option Refusal) (x : Refusal) → verdict o (tt {0}) ≡ Err x → o ≡ Some x
-some-from_err None x e = absurd (let z : ◌≡◌ {A = ℕ} 0 1 = cc in omega arith)
-some-from_err (Some y) x e = cc
 
 pub roomy : (len : ℕ) (buffer : List ℕ) → len ≤ length buffer → too_short len buffer ≡ None
 roomy len buffer h = cond-true _ _ _ (le-leb _ _ h)

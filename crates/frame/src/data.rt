@@ -10,7 +10,7 @@ use field::{all_below, all_zero};
 use refusal::Refusal;
 
 /// What a data frame says: slot i holds the coefficient of packet base + i, and every other coefficient is 0.
-#[derive(Clone, Copy)]
+#[derive(Clone, Copy, PartialEq, Eq, Debug)]
 pub struct Data {
     pub base: u32,
     pub width: u8,
@@ -28,61 +28,78 @@ fn slot_bytes<C: Carried>() -> usize
     (C::LEN - HEAD) * WINDOW / (WINDOW + SYMBOLS)
 }
 
-// Whether the width is from 1 to the window, and the row ends within the stream.
-fn fits_stream(data: &Data) -> bool
-    ensures { result ≡ fits_stream_lem 32 «data».now }
-{
-    let width = u32::from(data.width);
-    // Nothing wraps: the base is compared before the sum is made.
-    width >= 1 && width as usize <= WINDOW && data.base <= STREAM && data.base + width <= STREAM
-}
-
-// Whether the slots and the symbols are codes.
-fn codes_only<C: Carried>(data: &Data) -> bool
-    ensures { result ≡ codes_only_lem C.Q «data».now }
-{
-    all_below(&data.slots, C::Q) && all_below(&data.symbols, C::Q)
-}
-
-// Whether the slots from the width on are 0.
-fn none_stray(data: &Data) -> bool
-    requires { «data».now.width ≤ 32 }
-    ensures { result ≡ none_stray_lem «data».now }
-{
-    all_zero(&data.slots[data.width as usize..])
-}
-
-// The rules of a frame's contents, in the order of their refusals.
-fn check<C: Carried>(data: &Data) -> Result<(), Refusal>
-    ensures { result ≡ verdict (flaw C.Q 32 «data».now) tt }
-{
-    if !fits_stream(data) {
-        return Err(Refusal::BadWidth);
+impl Data {
+    // The contents of a frame whose body is left to unpack.
+    fn unpacked<C: Carried>(base: u32, width: u8, body: &[u8]) -> Data
+        requires { bytes_for C.carries 32 ≤ length body.now }
+        ensures { result ≡ contents_by C.carries 32 base width body.now }
+    {
+        let (slot_part, symbol_part) = body.split_at(slot_bytes::<C>());
+        let mut slots = [0; WINDOW];
+        C::unpack(slot_part, &mut slots);
+        let mut symbols = [0; SYMBOLS];
+        C::unpack(symbol_part, &mut symbols);
+        Data {
+            base,
+            width,
+            slots,
+            symbols,
+        }
     }
-    if !codes_only::<C>(data) {
-        return Err(Refusal::BadCode);
-    }
-    if !none_stray(data) {
-        return Err(Refusal::StraySlot);
-    }
-    Ok(())
-}
 
-// The contents of a frame whose body is left to unpack.
-fn contents<C: Carried>(base: u32, width: u8, body: &[u8]) -> Data
-    requires { bytes_for C.carries 32 ≤ length body.now }
-    ensures { result ≡ contents_by C.carries 32 base width body.now }
-{
-    let (slot_part, symbol_part) = body.split_at(slot_bytes::<C>());
-    let mut slots = [0; WINDOW];
-    C::unpack(slot_part, &mut slots);
-    let mut symbols = [0; SYMBOLS];
-    C::unpack(symbol_part, &mut symbols);
-    Data {
-        base,
-        width,
-        slots,
-        symbols,
+    // Whether the width is from 1 to the window, and the row ends within the stream.
+    fn fits_stream(&self) -> bool
+        ensures { result ≡ fits_stream_lem 32 self.now }
+    {
+        let width = u32::from(self.width);
+        // Nothing wraps: the base is compared before the sum is made.
+        width >= 1 && width as usize <= WINDOW && self.base <= STREAM && self.base + width <= STREAM
+    }
+
+    // Whether the slots and the symbols are codes.
+    fn codes_only<C: Carried>(&self) -> bool
+        ensures { result ≡ codes_only_lem C.Q self.now }
+    {
+        all_below(&self.slots, C::Q) && all_below(&self.symbols, C::Q)
+    }
+
+    // Whether the slots from the width on are 0.
+    fn none_stray(&self) -> bool
+        requires { self.now.width ≤ 32 }
+        ensures { result ≡ none_stray_lem self.now }
+    {
+        all_zero(&self.slots[self.width as usize..])
+    }
+
+    // The rules of a frame's contents, in the order of their refusals.
+    fn check<C: Carried>(&self) -> Result<(), Refusal>
+        ensures { result ≡ verdict (flaw C.Q 32 self.now) tt }
+    {
+        if !self.fits_stream() {
+            return Err(Refusal::BadWidth);
+        }
+        if !self.codes_only::<C>() {
+            return Err(Refusal::BadCode);
+        }
+        if !self.none_stray() {
+            return Err(Refusal::StraySlot);
+        }
+        Ok(())
+    }
+
+    // Fills a frame of the kind's length.
+    fn fill<C: Carried>(&self, frame: &mut [u8])
+        requires { length frame.old ≡ C.LEN }
+        ensures exact { frame.new ≡ frame_of C.carries 32 self.now }
+        ensures slots { length self.now.slots ≡ 32 }
+        ensures symbols { length self.now.symbols ≡ 128 }
+    {
+        let (head, body) = frame.split_at_mut(HEAD);
+        let [b0, b1, b2, b3] = self.base.to_be_bytes();
+        head.copy_from_slice(&[C::KIND, b0, b1, b2, b3, self.width]);
+        let (slot_part, symbol_part) = body.split_at_mut(slot_bytes::<C>());
+        C::pack(&self.slots, slot_part);
+        C::pack(&self.symbols, symbol_part);
     }
 }
 
@@ -104,23 +121,9 @@ pub fn read_data<C: Carried>(frame: &[u8]) -> Result<Data, Refusal>
         return Err(Refusal::WrongLength);
     }
     let base = u32::from_be_bytes([*b0, *b1, *b2, *b3]);
-    let data = contents::<C>(base, *width, body);
-    check::<C>(&data)?;
+    let data = Data::unpacked::<C>(base, *width, body);
+    data.check::<C>()?;
     Ok(data)
-}
-
-// Fills a frame of the kind's length.
-fn fill<C: Carried>(data: &Data, frame: &mut [u8])
-    requires { length frame.old ≡ C.LEN }
-    ensures exact { frame.new ≡ frame_of C.carries 32 «data».now }
-    ensures slots { length «data».now.slots ≡ 32 }
-    ensures symbols { length «data».now.symbols ≡ 128 }
-{
-    let [b0, b1, b2, b3] = data.base.to_be_bytes();
-    frame[0..HEAD].copy_from_slice(&[C::KIND, b0, b1, b2, b3, data.width]);
-    let middle = HEAD + slot_bytes::<C>();
-    C::pack(&data.slots, &mut frame[HEAD..middle]);
-    C::pack(&data.symbols, &mut frame[middle..]);
 }
 
 /// Writes a data frame at the buffer's start, leaves the rest, and answers the frame's length.
@@ -135,7 +138,7 @@ pub fn write_data<C: Carried>(data: &Data, frame: &mut [u8]) -> Result<usize, Re
     if frame.len() < C::LEN {
         return Err(Refusal::ShortBuffer);
     }
-    check::<C>(data)?;
-    fill::<C>(data, &mut frame[0..C::LEN]);
+    data.check::<C>()?;
+    data.fill::<C>(&mut frame[0..C::LEN]);
     Ok(C::LEN)
 }

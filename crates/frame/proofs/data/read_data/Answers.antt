@@ -13,5 +13,5 @@ returns-clause-proper g c =
 pub returns-clause-canonical : goal.returns-clause-canonical
 returns-clause-canonical g c =
     let lays = g.met.C.Carried.lays in
-    let exact : Ok c.contents-data.result ≡ reading g.C.Field.means g.C.Carried.carries 32 c.args.frame.now = grind (arith, common_steps) in
+    let exact : Ok c.unpacked-data.result ≡ reading g.C.Field.means g.C.Carried.carries 32 c.args.frame.now = grind (arith, common_steps) in
     read_canonical g.C.Field.means lays refl _ _ exact (λ i _. (c.type_inv.frame i).fits)
