@@ -1,11 +1,11 @@
 //! One packet at a time.
-ghost use Rattle.std.specs.Prelude.{◌≡◌, ◌<◌, refl};
+ghost use Rattle.std.specs.Prelude.{◌≡◌, refl};
 ghost use Rattle.source.specs.OfPlain.{plain};
-ghost use Rattle.source.specs.Turn.{start, ending};
+ghost use Rattle.source.specs.Turn.{start};
 ghost use Rattle.std.proofs.Common.{arith};
 ghost use Rattle.source.specs.Turning.{turning_laws};
 
-use super::turn::Turn;
+use super::turn::{Turn, marked};
 use super::{SLOTS, Source, check_draw};
 use refusal::Refusal;
 
@@ -38,14 +38,4 @@ impl Source for Plain {
         *slots = marked(place);
         Ok(())
     }
-}
-
-// 1 at the place, and 0 elsewhere.
-fn marked(place: usize) -> [u16; SLOTS]
-    requires { place < 32 }
-    ensures { result ≡ ending 32 place (λ i. 0) }
-{
-    let mut slots = [0; SLOTS];
-    slots[place] = 1;
-    slots
 }

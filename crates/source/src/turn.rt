@@ -1,6 +1,8 @@
 //! Whose turn it is in the window: the place that every source keeps.
 ghost use Rattle.std.specs.Prelude.{◌≡◌, ◌<◌};
-ghost use Rattle.source.specs.Turn.{start, place_at, moved};
+ghost use Rattle.source.specs.Turn.{start, place_at, moved, ending};
+
+use super::SLOTS;
 
 /// The place of the next draw, and the width of the last one.
 #[derive(Clone, Copy)]
@@ -35,4 +37,14 @@ impl Turn {
         };
         place
     }
+}
+
+// 1 in the slot at the place, and 0 in the others.
+pub(crate) fn marked(place: usize) -> [u16; SLOTS]
+    requires { place < 32 }
+    ensures { result ≡ ending 32 place (λ i. 0) }
+{
+    let mut slots = [0; SLOTS];
+    slots[place] = 1;
+    slots
 }

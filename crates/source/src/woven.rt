@@ -1,11 +1,11 @@
 //! One packet at a time, mixed with those below it.
-ghost use Rattle.std.specs.Prelude.{◌≡◌, suc, ◌/◌, ◌<◌, ◌≤◌, length, if◌then◌else◌, nat_lt, refl};
+ghost use Rattle.std.specs.Prelude.{◌≡◌, suc, ◌/◌, ◌<◌, refl};
 ghost use Rattle.source.specs.OfWoven.{woven, stepped, advanced, generated, code, codes};
-ghost use Rattle.source.specs.Turn.{start, slot, ending};
+ghost use Rattle.source.specs.Turn.{start, ending};
 ghost use Rattle.std.proofs.Common.{mod-lt, arith};
 ghost use Rattle.source.specs.Turning.{turning_laws};
 
-use super::turn::Turn;
+use super::turn::{Turn, marked};
 use super::{SLOTS, Source, check_draw};
 use refusal::Refusal;
 
@@ -37,28 +37,16 @@ impl Woven {
         (self.v / 65_536 % u32::from(order)) as u16
     }
 
-    // The coefficient of slot i: a code below the place, 1 at the place, and 0 above.
-    fn coefficient(&mut self, order: u16, place: usize, i: usize) -> u16
-        requires { 0 < order }
-        ensures coefficient { result ≡ slot place (λ _. code order (stepped self.old.v)) i }
-        ensures after { self.new ≡ (if nat_lt i place then advanced self.old else self.old) }
-    {
-        if i < place {
-            self.code(order)
-        } else {
-            u16::from(i == place)
-        }
-    }
-
-    // Writes the coefficient of each slot.
+    // Writes 1 at the place, a code in each slot below, and 0 above.
     fn weave(&mut self, order: u16, place: usize, slots: &mut [u16; SLOTS])
         requires order { 0 < order }
-        requires place { place ≤ 32 }
+        requires place { place < 32 }
         ensures slots { slots.new ≡ ending 32 place (codes self.old order) }
         ensures after { self.new ≡ record { turn = self.old.turn; v = generated self.old.v place } }
     {
-        for (i, slot) in slots.iter_mut().enumerate() {
-            *slot = self.coefficient(order, place, i);
+        *slots = marked(place);
+        for slot in slots[..place].iter_mut() {
+            *slot = self.code(order);
         }
     }
 }

@@ -1,4 +1,3 @@
-pub mod Sent
 pub mod Calls
 pub mod Ends
 pub mod Coding

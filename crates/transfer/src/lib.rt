@@ -9,7 +9,7 @@ ghost use Rattle.std.specs.Prelude.{◌≡◌, ◌<◌, ◌≤◌, [], length, t
 ghost use Rattle.refusal.specs.declared.Refusal.TheVariants.{ShortBuffer};
 ghost use Rattle.frame.specs.ReportFrame.{report_of};
 ghost use Rattle.transfer.specs.Calls.{state_of, admit, seal, send, fetch, hear, GoesOn, Stands};
-ghost use Rattle.transfer.specs.Parts.{parts, started};
+ghost use Rattle.transfer.specs.Parts.{Parts, parts, started};
 ghost use Rattle.transfer.specs.Promise.{Promise};
 ghost use Rattle.transfer.specs.Run.{Run};
 ghost use Rattle.transfer.specs.Steps.{called, fetched, admits, sends, fetches, with_heard, hears};
@@ -37,11 +37,32 @@ pub type OpenTransfer<C, S, D, R> = Transfer<Open, C, S, D, R>;
 /// A transfer whose stream is whole.
 pub type SealedTransfer<C, S, D, R> = Transfer<Sealed, C, S, D, R>;
 
+// What the parts of a transfer mean, under one name, which the contracts quote.
+trait Joined {
+    type S;
+
+    type D;
+
+    type R;
+
+    ghost parts: { Parts Self.S Self.D Self.R };
+}
+
+impl<P, C: Carried, S: Source, D: Link, R: Link> Joined for Transfer<P, C, S, D, R> {
+    type S = S;
+
+    type D = D;
+
+    type R = R;
+
+    ghost parts = { parts C.Field.means C.Carried.carries S.Source.means D.Link.means R.Link.means };
+}
+
 impl<C: Carried, S: Source, D: Link, R: Link> OpenTransfer<C, S, D, R> {
     /// A transfer before its first packet, over these links.
     pub fn new(source: S, forward: D, reverse: R) -> OpenTransfer<C, S, D, R>
         ensures exact { state_of result ≡ started 32 source forward reverse }
-        ensures starts { Run 32 (parts C.Field.means C.Carried.carries S.Source.means D.Link.means R.Link.means) source forward reverse [] (state_of result) }
+        ensures starts { Run 32 ⟦<Self as Joined>⟧.parts source forward reverse [] (state_of result) }
         ensures stands { Promise C.Field.means C.Carried.carries 32 (D.Link.means.waiting forward) (R.Link.means.waiting reverse) [] }
     {
         Transfer {
@@ -55,10 +76,10 @@ impl<C: Carried, S: Source, D: Link, R: Link> OpenTransfer<C, S, D, R> {
     /// Hands a packet to the sender, and answers how many were admitted. Refuses what the sender refuses, and then changes
     /// nothing.
     pub fn admit(&mut self, packet: &[u16]) -> Result<u32, Refusal>
-        ensures exact { called result (state_of self.new) ≡ admits 32 (parts C.Field.means C.Carried.carries S.Source.means D.Link.means R.Link.means) (state_of self.old) packet.now }
+        ensures exact { called result (state_of self.new) ≡ admits 32 ⟦<Self as Joined>⟧.parts (state_of self.old) packet.now }
         ensures unchanged { OnErr result (state_of self.new ≡ state_of self.old) }
-        ensures goes_on { GoesOn 32 (parts C.Field.means C.Carried.carries S.Source.means D.Link.means R.Link.means) (admit packet.now result) (state_of self.old) (state_of self.new) }
-        ensures stands { Stands 32 (parts C.Field.means C.Carried.carries S.Source.means D.Link.means R.Link.means) (admit packet.now result) (state_of self.old) }
+        ensures goes_on { GoesOn 32 ⟦<Self as Joined>⟧.parts (admit packet.now result) (state_of self.old) (state_of self.new) }
+        ensures stands { Stands 32 ⟦<Self as Joined>⟧.parts (admit packet.now result) (state_of self.old) }
     {
         self.sender.admit(packet)
     }
@@ -66,8 +87,8 @@ impl<C: Carried, S: Source, D: Link, R: Link> OpenTransfer<C, S, D, R> {
     /// Ends the stream: the admitted packets are all that there will be.
     pub fn seal(self) -> SealedTransfer<C, S, D, R>
         ensures exact { state_of result ≡ state_of self }
-        ensures goes_on { GoesOn 32 (parts C.Field.means C.Carried.carries S.Source.means D.Link.means R.Link.means) seal (state_of self) (state_of result) }
-        ensures stands { Stands 32 (parts C.Field.means C.Carried.carries S.Source.means D.Link.means R.Link.means) seal (state_of self) }
+        ensures goes_on { GoesOn 32 ⟦<Self as Joined>⟧.parts seal (state_of self) (state_of result) }
+        ensures stands { Stands 32 ⟦<Self as Joined>⟧.parts seal (state_of self) }
     {
         let Transfer {
             sender,
@@ -88,10 +109,10 @@ impl<P, C: Carried, S: Source, D: Link, R: Link> Transfer<P, C, S, D, R> {
     /// Puts a frame that combines the window's packets on the forward link, and answers its length. Refuses an empty
     /// window, and then changes nothing.
     pub fn send(&mut self) -> Result<usize, Refusal>
-        ensures exact { called result (state_of self.new) ≡ sends 32 (parts C.Field.means C.Carried.carries S.Source.means D.Link.means R.Link.means) (state_of self.old) }
+        ensures exact { called result (state_of self.new) ≡ sends 32 ⟦<Self as Joined>⟧.parts (state_of self.old) }
         ensures unchanged { OnErr result (state_of self.new ≡ state_of self.old) }
-        ensures goes_on { GoesOn 32 (parts C.Field.means C.Carried.carries S.Source.means D.Link.means R.Link.means) (send result) (state_of self.old) (state_of self.new) }
-        ensures stands { Stands 32 (parts C.Field.means C.Carried.carries S.Source.means D.Link.means R.Link.means) (send result) (state_of self.old) }
+        ensures goes_on { GoesOn 32 ⟦<Self as Joined>⟧.parts (send result) (state_of self.old) (state_of self.new) }
+        ensures stands { Stands 32 ⟦<Self as Joined>⟧.parts (send result) (state_of self.old) }
     {
         let mut frame = [0; FRAME_MOST];
         let length = self.sender.send(&mut frame)?;
@@ -104,11 +125,11 @@ impl<P, C: Carried, S: Source, D: Link, R: Link> Transfer<P, C, S, D, R> {
     /// number buffer without room for 32 packets, before it takes a frame, and then changes nothing; where the receiver
     /// refuses the frame, the frame is gone, and the report is put all the same.
     pub fn fetch(&mut self, numbers: &mut [u16]) -> Result<Option<Answer>, Refusal>
-        ensures exact { fetched result (state_of self.new) numbers.new ≡ fetches 32 (parts C.Field.means C.Carried.carries S.Source.means D.Link.means R.Link.means) (state_of self.old) numbers.old }
+        ensures exact { fetched result (state_of self.new) numbers.new ≡ fetches 32 ⟦<Self as Joined>⟧.parts (state_of self.old) numbers.old }
         ensures short { length numbers.old < 4096 → (result ≡ Err ShortBuffer) × (state_of self.new ≡ state_of self.old) × (numbers.new ≡ numbers.old) }
         ensures unchanged { OnErr result ((self.new.sender ≡ self.old.sender) × (self.new.receiver.state ≡ self.old.receiver.state) × (numbers.new ≡ numbers.old)) }
-        ensures goes_on { GoesOn 32 (parts C.Field.means C.Carried.carries S.Source.means D.Link.means R.Link.means) (fetch numbers.old result numbers.new) (state_of self.old) (state_of self.new) }
-        ensures stands { Stands 32 (parts C.Field.means C.Carried.carries S.Source.means D.Link.means R.Link.means) (fetch numbers.old result numbers.new) (state_of self.old) }
+        ensures goes_on { GoesOn 32 ⟦<Self as Joined>⟧.parts (fetch numbers.old result numbers.new) (state_of self.old) (state_of self.new) }
+        ensures stands { Stands 32 ⟦<Self as Joined>⟧.parts (fetch numbers.old result numbers.new) (state_of self.old) }
     {
         if numbers.len() < WINDOW * SYMBOLS {
             return Err(Refusal::ShortBuffer);
@@ -125,10 +146,10 @@ impl<P, C: Carried, S: Source, D: Link, R: Link> Transfer<P, C, S, D, R> {
     /// Takes a report, if there is one, off the reverse link and into the sender, whose answer it gives. A report that the
     /// sender refuses is gone, and changes nothing else.
     pub fn hear(&mut self) -> Result<Option<(u32, u32)>, Refusal>
-        ensures exact { called result (state_of self.new) ≡ hears 32 (parts C.Field.means C.Carried.carries S.Source.means D.Link.means R.Link.means) (state_of self.old) }
-        ensures unchanged { OnErr result (state_of self.new ≡ with_heard 32 (parts C.Field.means C.Carried.carries S.Source.means D.Link.means R.Link.means) self.old.sender.window (state_of self.old)) }
-        ensures goes_on { GoesOn 32 (parts C.Field.means C.Carried.carries S.Source.means D.Link.means R.Link.means) (hear result) (state_of self.old) (state_of self.new) }
-        ensures stands { Stands 32 (parts C.Field.means C.Carried.carries S.Source.means D.Link.means R.Link.means) (hear result) (state_of self.old) }
+        ensures exact { called result (state_of self.new) ≡ hears 32 ⟦<Self as Joined>⟧.parts (state_of self.old) }
+        ensures unchanged { OnErr result (state_of self.new ≡ with_heard 32 ⟦<Self as Joined>⟧.parts self.old.sender.window (state_of self.old)) }
+        ensures goes_on { GoesOn 32 ⟦<Self as Joined>⟧.parts (hear result) (state_of self.old) (state_of self.new) }
+        ensures stands { Stands 32 ⟦<Self as Joined>⟧.parts (hear result) (state_of self.old) }
     {
         let mut buffer = [0; FRAME_MOST];
         let Some(frame) = take_frame(&mut self.reverse, &mut buffer) else {

@@ -1,7 +1,8 @@
-use Rattle.std.proofs.Common.{replicate, Ok, refl, lit<, lit≤, rules}
+use Rattle.std.proofs.Common.{Ok, refl, lit<, take_at, arith, rules}
+use Rattle.std.proofs.lemmas.Grind.{common_steps}
 use Rattle.transfer.specs.Calls.{state_of, send}
-use Rattle.transfer.specs.Parts.{parts}
-use Rattle.transfer.proofs.Sent.{send-done}
+use Rattle.frame.proofs.Frames.{frame-length}
+use Rattle.sender.specs.Steps.{combined, width}
 use Rattle.transfer.proofs.Following.{together, call-stands}
 use Rattle.transfer.proofs.Transfer.send.Goals as goal
 
@@ -18,9 +19,13 @@ returns-in_err-length-clause-stands g c =
 
 pub returns-clause-exact : goal.returns-clause-exact
 returns-clause-exact g c =
-    let p = parts g.C.Field.means g.C.Carried.carries g.S.Source.means g.D.Link.means g.R.Link.means in
-    send-done 32 p (state_of c.args.self.now) g.met.C.Carried.lays refl (Ok c.in_ok-length.length) c.send.new.self.window c.send.new.self.source c.put.new.self (replicate 400 0) c.send.new.frame (lit≤ tt)
-    c.in_ok-length.ensures.exact c.in_ok-length.ensures.same c.put.ensures.exact
+    let m = g.C.Field.means in
+    let window = c.args.self.now.sender.window in
+    let slots = g.S.Source.means.slots c.args.self.now.sender.source m.q (width window) in
+    let lays = g.met.C.Carried.lays in
+    let short = lays.short in
+    let long = frame-length m lays refl (combined 32 m window slots) in
+    grind (arith, common_steps, take_at)
 
 pub returns-clause-goes_on : goal.returns-clause-goes_on
 returns-clause-goes_on g c = λ source forward reverse log run. (state_of c.args.self.now, run, (refl, returns-clause-exact g c))

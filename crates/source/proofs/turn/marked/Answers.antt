@@ -3,7 +3,7 @@ use Rattle.std.proofs.lemmas.Grind.{common_steps}
 use Rattle.std.proofs.lemmas.List.{length-set, length-replicate}
 use Rattle.std.proofs.lemmas.List.FromFn.{fill_by_all}
 use Rattle.source.specs.Turn.{slot, ending}
-use Rattle.source.proofs.plain.marked.Goals as goal
+use Rattle.source.proofs.turn.marked.Goals as goal
 
 slot_at : (w p k : ℕ) → p < w → k < w → get_or (set (replicate w 0) p 1) k 0 ≡ slot p (λ i. 0) k
 slot_at w p k h l = grind (arith, common_steps)
