@@ -1,15 +1,17 @@
 -- How many frames wait in a queue, as they are put and taken.
-use Rattle.std.proofs.Common.{◌≡◌, ℕ, ◌+◌, ◌-◌, ◌≤◌, eqb, ltb, List, [], ◌∷◌, length, get_or, Some, None, Option, ap, inl, inr, arith, length-append}
+use Rattle.std.proofs.Common.{◌≡◌, ℕ, ◌+◌, ◌-◌, ◌≤◌, ltb, List, [], ◌∷◌, length, get_or, Some, None, Option, ap, inl, inr, arith, length-append}
 use Rattle.std.proofs.lemmas.List.FromFn.{length-map-range_with_len}
 use Rattle.std.proofs.lemmas.Bool.{cases_lt, cond_both, cond-true, lt-ltb}
 use Rattle.std.specs.Option.{option_to_list}
+use Rattle.link.specs.declared.letter.Letter.{Letter}
+use Rattle.link.specs.declared.letter.Letter.TheVariants.{Keep, Lose, Double, Hold}
 use Rattle.link.specs.declared.plain.PlainLink.{PlainLink}
 use Rattle.link.specs.declared.scripted.ScriptedLink.{ScriptedLink}
 use Rattle.link.specs.declared.stored.Stored.{Stored}
 use Rattle.link.specs.OfScripted.{line, acted_on, scripted}
 use Rattle.link.specs.Queue.{first_of}
 use Rattle.link.specs.Ring.{frame, nothing, entry_of, place_of, queued, pushed, pushed_by, popped}
-use Rattle.link.specs.Script.{keep, double, letter_of, turned, through}
+use Rattle.link.specs.Script.{letter_of, turned, through}
 use Rattle.link.specs.Rings.{queued-none}
 
 -- a frame that is taken was counted
@@ -31,12 +33,13 @@ pushed_by-few : (q : PlainLink) (ss : List Stored) → (pushed_by q ss).count �
 pushed_by-few q [] = omega arith
 pushed_by-few q (s ∷ ss) = omega (arith, pushed_by-few (pushed q s) ss, pushed-few q s)
 
-through-few : (c : ℕ) (s : Stored) → length (through c (Some s)) ≤ 2
-through-few c s =
-    cond_both (eqb c keep) _ _ (λ (xs : List Stored). length xs ≤ 2) (λ _. omega arith)
-    (λ _. cond_both (eqb c double) _ _ (λ (xs : List Stored). length xs ≤ 2) (λ _. omega arith) (λ _. omega arith))
+through-few : (c : Letter) (s : Stored) → length (through c (Some s)) ≤ 2
+through-few Keep s = omega arith
+through-few Lose s = omega arith
+through-few Double s = omega arith
+through-few Hold s = omega arith
 
-acted-few : (c : ℕ) (o : Option Stored) (x : ScriptedLink) → (acted_on c o x).queue.count ≤ x.queue.count + 2
+acted-few : (c : Letter) (o : Option Stored) (x : ScriptedLink) → (acted_on c o x).queue.count ≤ x.queue.count + 2
 acted-few c None x = omega arith
 acted-few c (Some s) x = omega (arith, pushed_by-few x.queue (through c (Some s)), through-few c s)
 

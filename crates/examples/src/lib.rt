@@ -7,12 +7,6 @@ ghost use Rattle.examples.specs.Met.{PromisesMet};
 ghost use Rattle.examples.specs.Refused.{WrongAnswersRefused};
 
 #[cfg(test)]
-mod fields;
-#[cfg(test)]
-mod frames;
-#[cfg(test)]
-mod links;
-#[cfg(test)]
 mod receivers;
 #[cfg(test)]
 mod transfers;

@@ -1,7 +1,8 @@
 //! The worked examples, run.
 use carried::Carried;
-use field::{Bits, Bytes, Field, Residues};
+use field::{Bits, Bytes, Residues};
 use frame::{Data, FRAME_MOST, SYMBOLS, WINDOW, write_data};
+use receiver::Answer::{Fresh, Repeat};
 use receiver::{Answer, Receiver};
 use refusal::Refusal;
 use source::{Source, Woven};
@@ -21,29 +22,22 @@ fn data(base: u32, row: &[u16], x: u16) -> Data {
     }
 }
 
-// The frame arrives: the answer is fresh with a count, a repeat without one, or a refusal.
+// The frame that says so arrives.
 fn arrive<C: Carried>(
     receiver: &mut Receiver<C>,
     data: &Data,
     numbers: &mut [u16],
-) -> Result<Option<u32>, Refusal> {
+) -> Result<Answer, Refusal> {
     let mut bytes = [0; FRAME_MOST];
     let len = write_data::<C>(data, &mut bytes)?;
-    match receiver.arrive(&bytes[..len.min(FRAME_MOST)], numbers)? {
-        Answer::Fresh(count) => Ok(Some(count)),
-        Answer::Repeat => Ok(None),
-    }
+    receiver.arrive(&bytes[..len.min(FRAME_MOST)], numbers)
 }
 
 // The buffer begins with packets of 128 equal numbers each, and is 0 from there on.
-fn check_packets(rt: &impl Abort, numbers: &[u16], packets: &[u16]) {
-    for (i, number) in numbers.iter().enumerate() {
-        let expected = if i / SYMBOLS < packets.len() {
-            packets[i / SYMBOLS]
-        } else {
-            0
-        };
-        assert_eq!(rt; *number, expected);
+fn check_packets(rt: &impl Abort, numbers: &[u16; SYMBOLS * WINDOW], packets: &[u16]) {
+    for (i, packet) in numbers.chunks_exact(SYMBOLS).enumerate() {
+        let number = packets.get(i).copied().unwrap_or(0);
+        assert_eq!(rt; packet, [number; SYMBOLS].as_slice());
     }
 }
 
@@ -57,7 +51,7 @@ fn check_report<C: Carried>(
     assert_eq!(rt; receiver.report(), report);
     let mut numbers = [0; WINDOW];
     let count = receiver.missing(&mut numbers)?;
-    assert_eq!(rt; &numbers[..count.min(WINDOW)], missing);
+    assert_eq!(rt; numbers.get(..count), Some(missing));
     Ok(())
 }
 
@@ -66,19 +60,12 @@ fn call<C: Carried>(
     rt: &impl Abort,
     receiver: &mut Receiver<C>,
     data: &Data,
-    answer: Result<Option<u32>, Refusal>,
+    answer: Result<Answer, Refusal>,
     packets: &[u16],
 ) {
     let mut numbers = [0; SYMBOLS * WINDOW];
     assert_eq!(rt; arrive(receiver, data, &mut numbers), answer);
     check_packets(rt, &numbers, packets);
-}
-
-#[test]
-fn products_and_inverses(rt: HostRuntime) {
-    assert_eq!(rt; Bytes::mul(2, 128), 29);
-    assert_eq!(rt; Bytes::inverse(2), Some(142));
-    assert_eq!(rt; Residues::inverse(2), Some(129));
 }
 
 #[test]
@@ -97,17 +84,17 @@ fn woven_draws(rt: HostRuntime) -> Result<(), Fail> {
 #[test]
 fn residues_solved(rt: HostRuntime) -> Result<(), Fail> {
     let mut receiver = Receiver::<Residues>::new();
-    call(&rt, &mut receiver, &data(0, &[1, 1], 5), Ok(Some(0)), &[]);
+    call(&rt, &mut receiver, &data(0, &[1, 1], 5), Ok(Fresh(0)), &[]);
     check_report(&rt, &receiver, (0, 1), &[1])?;
     call(
         &rt,
         &mut receiver,
         &data(0, &[1, 2], 8),
-        Ok(Some(2)),
+        Ok(Fresh(2)),
         &[2, 3],
     );
     check_report(&rt, &receiver, (2, 2), &[])?;
-    call(&rt, &mut receiver, &data(0, &[1, 1], 5), Ok(None), &[]);
+    call(&rt, &mut receiver, &data(0, &[1, 1], 5), Ok(Repeat), &[]);
     check_report(&rt, &receiver, (2, 2), &[])?;
     let refused = Err(Refusal::Contradiction);
     call(&rt, &mut receiver, &data(0, &[1, 1], 6), refused, &[]);
@@ -117,14 +104,14 @@ fn residues_solved(rt: HostRuntime) -> Result<(), Fail> {
 #[test]
 fn bytes_solved(rt: HostRuntime) -> Result<(), Fail> {
     let mut receiver = Receiver::<Bytes>::new();
-    call(&rt, &mut receiver, &data(0, &[1, 1], 5), Ok(Some(0)), &[]);
+    call(&rt, &mut receiver, &data(0, &[1, 1], 5), Ok(Fresh(0)), &[]);
     check_report(&rt, &receiver, (0, 1), &[1])?;
     let packets = [245, 240];
     call(
         &rt,
         &mut receiver,
         &data(0, &[1, 2], 8),
-        Ok(Some(2)),
+        Ok(Fresh(2)),
         &packets,
     );
     check_report(&rt, &receiver, (2, 2), &[])
@@ -137,7 +124,7 @@ fn one_missing(rt: HostRuntime) -> Result<(), Fail> {
         &rt,
         &mut receiver,
         &data(0, &[1, 1, 0], 1),
-        Ok(Some(0)),
+        Ok(Fresh(0)),
         &[],
     );
     check_report(&rt, &receiver, (0, 1), &[1, 2])?;
@@ -145,7 +132,7 @@ fn one_missing(rt: HostRuntime) -> Result<(), Fail> {
         &rt,
         &mut receiver,
         &data(0, &[0, 0, 1], 1),
-        Ok(Some(0)),
+        Ok(Fresh(0)),
         &[],
     );
     check_report(&rt, &receiver, (0, 1), &[1])
@@ -163,7 +150,7 @@ fn ahead(rt: HostRuntime) -> Result<(), Fail> {
         &[],
     );
     check_report(&rt, &receiver, (0, 0), &[])?;
-    call(&rt, &mut receiver, &data(0, &row, 0), Ok(Some(0)), &[]);
+    call(&rt, &mut receiver, &data(0, &row, 0), Ok(Fresh(0)), &[]);
     assert_eq!(rt; receiver.report(), (0, 1));
     assert_eq!(rt; Refusal::Ahead.number(), 17);
     Ok(())
@@ -172,7 +159,7 @@ fn ahead(rt: HostRuntime) -> Result<(), Fail> {
 // Packets 0 to 32, all 0, arrive one by one.
 fn arrive_singly(rt: &impl Abort, receiver: &mut Receiver<Bits>, numbers: &mut [u16]) {
     for k in 0..33u32 {
-        assert_eq!(rt; arrive(receiver, &data(k, &[1], 0), numbers), Ok(Some(1)));
+        assert_eq!(rt; arrive(receiver, &data(k, &[1], 0), numbers), Ok(Fresh(1)));
     }
 }
 
@@ -180,7 +167,7 @@ fn arrive_singly(rt: &impl Abort, receiver: &mut Receiver<Bits>, numbers: &mut [
 fn late(rt: HostRuntime) -> Result<(), Fail> {
     let mut receiver = Receiver::<Bits>::new();
     arrive_singly(&rt, &mut receiver, &mut [0; SYMBOLS * WINDOW]);
-    call(&rt, &mut receiver, &data(1, &[1], 0), Ok(None), &[]);
+    call(&rt, &mut receiver, &data(1, &[1], 0), Ok(Repeat), &[]);
     check_report(&rt, &receiver, (33, 33), &[])?;
     call(
         &rt,

@@ -23,7 +23,7 @@ fn two_packets(rt: HostRuntime) -> Result<(), Fail> {
     let mut transfer = open.seal();
     crosses(&rt, &mut transfer, 7, 1)?;
     crosses(&rt, &mut transfer, 8, 2)?;
-    assert!(rt; is_empty(transfer.send()));
+    assert_eq!(rt; transfer.send(), Err(Refusal::WindowEmpty));
     Ok(())
 }
 
@@ -36,22 +36,8 @@ fn crosses(
 ) -> Result<(), Fail> {
     let mut numbers = [0; WINDOW * SYMBOLS];
     assert_eq!(rt; transfer.send()?, 166);
-    assert!(rt; releases_one(transfer.fetch(&mut numbers)?));
+    assert_eq!(rt; transfer.fetch(&mut numbers)?, Some(Answer::Fresh(1)));
     assert_eq!(rt; numbers[127], symbol);
     assert_eq!(rt; transfer.hear()?, Some((count, count)));
     Ok(())
-}
-
-fn is_empty(answer: Result<usize, Refusal>) -> bool {
-    match answer {
-        Err(Refusal::WindowEmpty) => true,
-        _ => false,
-    }
-}
-
-fn releases_one(answer: Option<Answer>) -> bool {
-    match answer {
-        Some(Answer::Fresh(1)) => true,
-        _ => false,
-    }
 }

@@ -1,7 +1,8 @@
 -- A take from a queue leaves what it should.
-use Rattle.std.proofs.Common.{◌≡◌, ℕ, ◌<◌, ◌≤◌, Bool, true, false, cond, ltb, ◌⊎◌, List, ◌++◌, length, get_or, drop, Some, None, Ok, Err, Option, Result, sym, refl, ap, ◌∙◌, inl, inr, arith}
+use Rattle.std.proofs.Common.{◌≡◌, ℕ, ◌<◌, ◌≤◌, Bool, true, false, cond, ltb, ◌⊎◌, List, ◌++◌, length, get_or, min, take, drop, Some, None, Ok, Err, Option, Result, sym, refl, ap, ◌∙◌, inl, inr, arith, append_assoc, length-take}
 use Rattle.refusal.specs.declared.Refusal.{Refusal}
 use Rattle.refusal.specs.declared.Refusal.TheVariants.{ShortBuffer}
+use Rattle.std.proofs.lemmas.List.{drop-append-le, take-append-drop}
 use Rattle.std.proofs.lemmas.Bool.{cases_lt, lt-ltb, le-ltb, cond-true, cond-false}
 use Rattle.std.specs.Option.{option_map}
 use Rattle.link.specs.declared.plain.PlainLink.{PlainLink}
@@ -39,14 +40,24 @@ module _ (limit : ℕ) (q : PlainLink) (buffer : List ℕ) (long : limit ≤ len
   accepted : (o : Option Stored) → o ≡ front q → taken limit (plain limit) q buffer ≡ handed (popped q) buffer (option_map (frame limit) o)
   accepted o e = accepts limit (plain limit) q buffer long ∙ ap (handed (popped q) buffer) (sym (ap (option_map (frame limit)) e ∙ first_frame limit q))
 
-  pub takes_none : None ≡ front q → record { answer = Ok None; state = s; buffer = buffer } ≡ taken limit (plain limit) q buffer
-  takes_none e = same (Ok None) (Ok None) s (popped q) buffer buffer refl after refl ∙ sym (accepted None e)
+  pub takes_none : (bytes : List ℕ) → None ≡ front q → bytes ≡ buffer → record { answer = Ok None; state = s; buffer = bytes } ≡ taken limit (plain limit) q buffer
+  takes_none bytes e v = same (Ok None) (Ok None) s (popped q) bytes buffer refl after v ∙ sym (accepted None e)
 
   pub takes-some : (x : Stored) (n : ℕ) (bytes : List ℕ) → Some x ≡ front q → n ≡ length (frame limit x) → bytes ≡ frame limit x ++ drop (length (frame limit x)) buffer
       → record { answer = Ok (Some n); state = s; buffer = bytes } ≡ taken limit (plain limit) q buffer
   takes-some x n bytes e u v =
       same (Ok (Some n)) (Ok (Some (length (frame limit x)))) s (popped q) bytes (frame limit x ++ drop (length (frame limit x)) buffer) (ap (λ k. Ok (Some k)) u) after v
       ∙ sym (accepted (Some x) e)
+
+-- a frame written into the start of a buffer leaves all behind it
+pub written-start : (limit : ℕ) (x : Stored) (buffer start after : List ℕ) → limit ≤ length buffer → start ≡ take limit buffer
+    → after ≡ frame limit x ++ drop (length (frame limit x)) start → after ++ drop limit buffer ≡ frame limit x ++ drop (length (frame limit x)) buffer
+written-start limit x buffer start after long e u =
+    let f = frame limit x in
+    let fits : length f ≤ length (take limit buffer) = omega (arith, length-take limit buffer, length-take (min x.length limit) x.bytes) in
+    ap (λ b. b ++ drop limit buffer) (u ∙ ap (λ b. f ++ drop (length f) b) e)
+    ∙ append_assoc f (drop (length f) (take limit buffer)) (drop limit buffer)
+    ∙ ap (λ b. f ++ b) (sym (drop-append-le (length f) (take limit buffer) (drop limit buffer) fits) ∙ ap (drop (length f)) (take-append-drop limit buffer))
 
 -- the state after a take
 pub state-after : {S : Type 0} (limit : ℕ) (c : Carries S) (x : S) (buffer : List ℕ) {r : Result (Option ℕ) Refusal} {s : S} {b : List ℕ}

@@ -1,8 +1,9 @@
 -- What the steps of both links do to the frames on them.
-use Rattle.std.specs.Prelude.{◌≡◌, ℕ, Bool, true, false, cond, List, length, Some, None, Option, ◌==◌, nat_le, refl}
+use Rattle.std.specs.Prelude.{◌≡◌, ℕ, Bool, true, false, cond, List, length, Some, None, Option, nat_le, refl}
 use Rattle.std.proofs.Common.{◌∙◌, ap, ap₂}
 use Rattle.std.specs.Option.{option_map, option_to_list}
 use Rattle.std.proofs.lemmas.Bool.{leb-true}
+use Rattle.link.specs.declared.letter.Letter.{Letter}
 use Rattle.link.specs.declared.plain.PlainLink.{PlainLink}
 use Rattle.link.specs.declared.scripted.ScriptedLink.{ScriptedLink}
 use Rattle.link.specs.declared.stored.Stored.{Stored}
@@ -10,7 +11,7 @@ use Rattle.link.specs.OfPlain.{plain}
 use Rattle.link.specs.OfScripted.{Line, put_by, line, acted_on, let_go, scripted}
 use Rattle.link.specs.Queue.{joined_by, short}
 use Rattle.link.specs.Ring.{frame, entry, entry_of, queued}
-use Rattle.link.specs.Script.{hold, letter_of, turned, through, holding}
+use Rattle.link.specs.Script.{holds, letter_of, turned, through, holding}
 use Rattle.link.specs.Letters.{map-list_of, map-through, mapped_holding}
 use Rattle.link.specs.Rings.{frame-entry, queued-pushed_by, length-pushed_by}
 
@@ -31,15 +32,15 @@ line_same : (xs ys : List (List ℕ)) (o p : Option (List ℕ)) → xs ≡ ys �
 line_same xs ys o p u v = cc
 
 -- the queue and the frame held, after a letter has acted
-acted-line : (limit c : ℕ) (x : ScriptedLink) (o : Option Stored) → x.held ≡ None
+acted-line : (limit : ℕ) (c : Letter) (x : ScriptedLink) (o : Option Stored) → x.held ≡ None
     → line limit (acted_on c o x) ≡ record { queue = joined_by (length x.queue.frames) (queued limit x.queue) (through c (option_map (frame limit) o)); held = holding c (option_map (frame limit) o) }
 acted-line limit c x None e = line_same _ _ _ _ refl (ap (option_map (frame limit)) e)
 acted-line limit c x (Some s) e =
     line_same _ _ _ _
     (queued-pushed_by limit x.queue (through c (Some s)) ∙ ap (joined_by (length x.queue.frames) (queued limit x.queue)) (map-through (frame limit) c (Some s)))
-    (ap (λ h. option_map (frame limit) (cond (c == hold) (Some s) h)) e ∙ mapped_holding (frame limit) c (Some s))
+    (ap (λ h. option_map (frame limit) (cond (holds c) (Some s) h)) e ∙ mapped_holding (frame limit) c (Some s))
 
-acted-room : (c : ℕ) (x : ScriptedLink) (o : Option Stored) → length (acted_on c o x).queue.frames ≡ length x.queue.frames
+acted-room : (c : Letter) (x : ScriptedLink) (o : Option Stored) → length (acted_on c o x).queue.frames ≡ length x.queue.frames
 acted-room c x None = refl
 acted-room c x (Some s) = length-pushed_by x.queue (through c (Some s))
 

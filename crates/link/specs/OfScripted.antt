@@ -1,14 +1,15 @@
 -- The scripted link: a queue, the script that says what a put does, and the frame that it holds.
-use Rattle.std.specs.Prelude.{ℕ, cond, List, ◌++◌, drop, Some, None, Ok, Err, Option, Result, ◌==◌}
+use Rattle.std.specs.Prelude.{ℕ, cond, List, ◌++◌, drop, Some, None, Ok, Err, Option, Result}
 use Rattle.refusal.specs.declared.Refusal.{Refusal}
 use Rattle.refusal.specs.declared.Refusal.TheVariants.{BadScript}
 use Rattle.std.specs.Option.{option_map, option_to_list}
+use Rattle.link.specs.declared.letter.Letter.{Letter}
 use Rattle.link.specs.declared.scripted.ScriptedLink.{ScriptedLink}
 use Rattle.link.specs.declared.stored.Stored.{Stored}
 use Rattle.link.specs.Link.{Carries}
 use Rattle.link.specs.Queue.{first_of, joined_by, short}
 use Rattle.link.specs.Ring.{frame, entry_of, empty, queued, pushed_by, popped}
-use Rattle.link.specs.Script.{hold, proper, opened, letter_of, turned, through, holding}
+use Rattle.link.specs.Script.{holds, proper, opened, letter_of, turned, through, holding}
 
 -- the frames on a link: those in the queue, and the one held
 pub record Line : Type 0 where
@@ -16,7 +17,7 @@ pub record Line : Type 0 where
   pub held : Option (List ℕ)
 
 -- a put by the letter c: first what the letter lets through joins the queue, then the frame that was held before
-abbrev pub put_by : ℕ → ℕ → ℕ → Line → List ℕ → Line
+abbrev pub put_by : ℕ → ℕ → Letter → Line → List ℕ → Line
 put_by size limit c l f = record {
   queue = joined_by size (joined_by size l.queue (through c (short limit f))) (option_to_list l.held);
   held = holding c (short limit f);
@@ -37,14 +38,14 @@ new_link size limit room cs = record { queue = empty size limit; script = opened
 -- a link with a script, on which no frame waits
 abbrev pub opened_with : ℕ → ℕ → ℕ → List ℕ → Result ScriptedLink Refusal
 opened_with size limit room cs =
-    cond (proper room cs) (Ok (record { queue = empty size limit; script = opened room cs; held = None })) (Err BadScript)
+    cond (proper room cs) (Ok (new_link size limit room cs)) (Err BadScript)
 
 -- the link after a letter has acted on an entry
-abbrev pub acted : ℕ → Stored → ScriptedLink → ScriptedLink
-acted c s x = record { queue = pushed_by x.queue (through c (Some s)); script = x.script; held = cond (c == hold) (Some s) x.held }
+abbrev pub acted : Letter → Stored → ScriptedLink → ScriptedLink
+acted c s x = record { queue = pushed_by x.queue (through c (Some s)); script = x.script; held = cond (holds c) (Some s) x.held }
 
 -- the same of an entry that is absent where the frame was too long
-abbrev pub acted_on : ℕ → Option Stored → ScriptedLink → ScriptedLink
+abbrev pub acted_on : Letter → Option Stored → ScriptedLink → ScriptedLink
 acted_on c None x = x
 acted_on c (Some s) x = acted c s x
 

@@ -1,10 +1,12 @@
 -- Both links keep the laws of a link: no frame is made up.
-use Rattle.std.specs.Prelude.{◌≡◌, ℕ, zero, suc, ◌+◌, ◌≤◌, min, Bool, true, false, cond, ◌⊎◌, List, [], ◌∷◌, ◌++◌, map, length, drop, Some, None, Option, ◌==◌, nat_le, nat_lt}
+use Rattle.std.specs.Prelude.{◌≡◌, ℕ, ◌≤◌, min, Bool, true, false, cond, ◌⊎◌, List, [], ◌∷◌, ◌++◌, length, drop, Some, None, Option, nat_le, nat_lt, slice_index_or}
 use mathlib.Core.List.Memᴰ
 use mathlib.Core.List.{Memᴰ}
 use Rattle.std.proofs.Common.{inl, inr, sym, ap, subst, arith, length-take}
 use Rattle.std.specs.List.{range_with_len}
 use Rattle.std.specs.Option.{option_map, option_to_list}
+use Rattle.link.specs.declared.letter.Letter.{Letter}
+use Rattle.link.specs.declared.letter.Letter.TheVariants.{Keep, Lose, Double, Hold}
 use Rattle.link.specs.declared.plain.PlainLink.{PlainLink}
 use Rattle.link.specs.declared.scripted.ScriptedLink.{ScriptedLink}
 use Rattle.link.specs.declared.stored.Stored.{Stored}
@@ -12,8 +14,8 @@ use Rattle.link.specs.Link.{CarriesLaws}
 use Rattle.link.specs.OfPlain.{plain}
 use Rattle.link.specs.OfScripted.{Line, scripted}
 use Rattle.link.specs.Queue.{joined, joined_by, first_of, short}
-use Rattle.link.specs.Ring.{frame, queued, popped}
-use Rattle.link.specs.Script.{keep, double, hold, letter_of, through, holding}
+use Rattle.link.specs.Ring.{frame, nothing, place_of, queued, popped}
+use Rattle.link.specs.Script.{holds, letter_of, through, holding}
 use Rattle.link.specs.Lines.{plain-put, scripted-put}
 use Rattle.link.specs.Rings.{queued-popped}
 
@@ -45,22 +47,20 @@ module _ {X : Type 0} (y : X) where
   in_option None i = absurd (Memᴰ.not-nil i)
   in_option (Some x) i = ap Some (sym (Memᴰ.eq_of_singleton i))
 
-  in_through : (c : ℕ) (o : Option X) → Memᴰ y (through c o) → o ≡ Some y
+  in_through : (c : Letter) (o : Option X) → Memᴰ y (through c o) → o ≡ Some y
   in_through c None i = absurd (Memᴰ.not-nil i)
-  in_through c (Some x) i = go (c == keep) (c == double) i
+  in_through Keep (Some x) i = ap Some (sym (Memᴰ.eq_of_singleton i))
+  in_through Lose (Some x) i = absurd (Memᴰ.not-nil i)
+  in_through Double (Some x) i = both (Memᴰ.cases_cons i)
     where
-      go : (k d : Bool) → Memᴰ y (cond k (x ∷ []) (cond d (x ∷ x ∷ []) [])) → Some x ≡ Some y
-      go true d j = ap Some (sym (Memᴰ.eq_of_singleton j))
-      go false true j = both (Memᴰ.cases_cons j)
-        where
-          both : (y ≡ x) ⊎ Memᴰ y (x ∷ []) → Some x ≡ Some y
-          both (inl e) = ap Some (sym e)
-          both (inr k) = ap Some (sym (Memᴰ.eq_of_singleton k))
-      go false false j = absurd (Memᴰ.not-nil j)
+      both : (y ≡ x) ⊎ Memᴰ y (x ∷ []) → Some x ≡ Some y
+      both (inl e) = ap Some (sym e)
+      both (inr k) = ap Some (sym (Memᴰ.eq_of_singleton k))
+  in_through Hold (Some x) i = absurd (Memᴰ.not-nil i)
 
-  in_holding : (c : ℕ) (o : Option X) → holding c o ≡ Some y → o ≡ Some y
+  in_holding : (c : Letter) (o : Option X) → holding c o ≡ Some y → o ≡ Some y
   in_holding c None e = e
-  in_holding c (Some x) e = go (c == hold) e
+  in_holding c (Some x) e = go (holds c) e
     where
       go : (h : Bool) → cond h (Some x) None ≡ Some y → Some x ≡ Some y
       go true e = e
@@ -84,18 +84,12 @@ is-short limit f g = go (nat_le (length f) limit)
 frame-short : (limit : ℕ) (s : Stored) → length (frame limit s) ≤ limit
 frame-short limit s = omega (arith, length-take (min s.length limit) s.bytes)
 
-all_short : (limit : ℕ) (entry_at : ℕ → Stored) (a n : ℕ) (g : List ℕ) → Memᴰ g (map (λ i. frame limit (entry_at i)) (range_with_len a n)) → length g ≤ limit
-all_short limit entry_at a zero g i = absurd (Memᴰ.not-nil i)
-all_short limit entry_at a (suc n) g i = go (Memᴰ.cases_cons i) (all_short limit entry_at (a + 1) n g)
-  where
-    go : (g ≡ frame limit (entry_at a)) ⊎ Memᴰ g (map (λ i. frame limit (entry_at i)) (range_with_len (a + 1) n))
-        → (Memᴰ g (map (λ i. frame limit (entry_at i)) (range_with_len (a + 1) n)) → length g ≤ limit) → length g ≤ limit
-    go (inl e) ih = subst (λ h. length h ≤ limit) (sym e) (frame-short limit (entry_at a))
-    go (inr j) ih = ih j
-
 module _ (limit : ℕ) where
   queued-short : (q : PlainLink) (g : List ℕ) → Memᴰ g (queued limit q) → length g ≤ limit
-  queued-short q g i = all_short limit _ 0 q.count g i
+  queued-short q g i =
+      let frame_at : ℕ → List ℕ = λ k. frame limit (slice_index_or q.frames (place_of q k) nothing) in
+      let found = Memᴰ.of_map frame_at (range_with_len 0 q.count) i in
+      subst (λ h. length h ≤ limit) found.2 (frame-short limit (slice_index_or q.frames (place_of q found.0) nothing))
 
   queued_rest : (q : PlainLink) (g : List ℕ) → Memᴰ g (queued limit (popped q)) → Memᴰ g (queued limit q)
   queued_rest q g i = in_rest g (queued limit q) (subst (Memᴰ g) (queued-popped limit q) i)

@@ -9,6 +9,7 @@ ghost use Rattle.link.specs.Link.{Carries, CarriesLaws, taken};
 
 use refusal::Refusal;
 
+mod letter;
 mod plain;
 mod script;
 mod scripted;
@@ -27,6 +28,7 @@ pub trait Link {
 
     /// Takes the next frame, if there is one: it then stands at the start of the buffer, whose rest is left, and its
     /// length is answered. Refuses a buffer of fewer than 400 bytes, and then changes nothing.
+    // The length, and no slice of the buffer, since what the whole buffer then holds is promised.
     fn take(&mut self, buffer: &mut [u8]) -> Result<Option<usize>, Refusal>
         ensures exact { record { answer = result; state = self.new; buffer = buffer.new } ≡ taken 400 means self.old buffer.old };
 

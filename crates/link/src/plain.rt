@@ -11,10 +11,14 @@ use super::Link;
 use super::stored::{LIMIT, Stored};
 use refusal::Refusal;
 
+// How many frames there is room for.
+const ROOM: usize = 16;
+
 /// A queue of 16 frames, in a ring. A frame that finds it full or is over 400 bytes is lost.
 #[derive(Clone, Copy)]
 pub struct PlainLink {
-    frames: [Stored; 16],
+    // A ring in an array: a put refuses nothing, so no memory is asked for.
+    frames: [Stored; ROOM],
     first: usize,
     count: usize,
 }
@@ -26,19 +30,10 @@ impl PlainLink {
         ensures queue { queued 400 result ≡ [] }
     {
         PlainLink {
-            frames: [Stored::empty(); 16],
+            frames: [Stored::empty(); ROOM],
             first: 0,
             count: 0,
         }
-    }
-
-    // How many frames there is room for.
-    fn room(&self) -> usize
-        ensures whole { result ≡ length self.now.frames }
-        ensures size { result ≡ 16 }
-    {
-        let frames: &[Stored] = &self.frames;
-        frames.len()
     }
 
     // Where entry i lies. The first place counts modulo the room, so that no state is out of bounds.
@@ -47,8 +42,7 @@ impl PlainLink {
         ensures place { result ≡ place_of self.now i }
         ensures within { result < 16 }
     {
-        let room = self.room();
-        (self.first % room + i) % room
+        (self.first % ROOM + i) % ROOM
     }
 
     /// Puts a frame, if there is one, at the end of the queue, unless that is full.
@@ -56,9 +50,8 @@ impl PlainLink {
         ensures exact { self.new ≡ pushed_by self.old (option_to_list frame) }
         ensures room { length self.old.frames ≡ 16 }
     {
-        let room = self.room();
         if let Some(frame) = frame
-            && self.count < room
+            && self.count < ROOM
         {
             let place = self.place(self.count);
             self.frames[place] = frame;
@@ -97,12 +90,12 @@ impl Link for PlainLink {
         ensures exact { record { answer = result; state = self.new; buffer = buffer.new } ≡ taken 400 (plain 400) self.old buffer.old }
         ensures queue { queued 400 self.new ≡ (if nat_lt (length buffer.old) 400 then queued 400 self.old else drop 1 (queued 400 self.old)) }
     {
-        if buffer.len() < LIMIT {
+        let Some(start) = buffer.first_chunk_mut::<LIMIT>() else {
             return Err(Refusal::ShortBuffer);
-        }
+        };
         let Some(frame) = self.pop() else {
             return Ok(None);
         };
-        Ok(Some(frame.write(buffer)))
+        Ok(Some(frame.write(start)))
     }
 }

@@ -6,6 +6,7 @@ ghost use Rattle.link.specs.Script.{letter_of, Rounds};
 ghost use Rattle.link.specs.Waiting.{scripted_laws};
 
 use super::Link;
+use super::letter::Letter;
 use super::plain::PlainLink;
 use super::script::Script;
 use super::stored::Stored;
@@ -50,20 +51,19 @@ impl ScriptedLink {
     }
 
     // What the letter does to a frame.
-    fn act(&mut self, letter: u8, frame: Stored)
+    fn act(&mut self, letter: Letter, frame: Stored)
         ensures { self.new ≡ acted letter frame self.old }
     {
-        match char::from(letter) {
-            'k' => self.queue.join(Some(frame)),
-            'd' => {
+        match letter {
+            Letter::Keep => self.queue.join(Some(frame)),
+            Letter::Lose => {}
+            Letter::Double => {
                 // Where there is room for one only, the copy is lost.
                 let copy = frame;
                 self.queue.join(Some(frame));
                 self.queue.join(Some(copy));
             }
-            'h' => self.held = Some(frame),
-            // 'l', the only other letter of a script.
-            _ => {}
+            Letter::Hold => self.held = Some(frame),
         }
     }
 }

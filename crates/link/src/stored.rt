@@ -8,6 +8,7 @@ pub(crate) const LIMIT: usize = 400;
 /// A frame: the first bytes of its memory.
 #[derive(Clone, Copy)]
 pub(crate) struct Stored {
+    // An array with its length beside it: a put refuses nothing, so no memory is asked for.
     bytes: [u8; LIMIT],
     length: usize,
 }
@@ -36,13 +37,13 @@ impl Stored {
     }
 
     /// Writes the frame at the start of the buffer, and answers its length.
-    pub(crate) fn write(&self, buffer: &mut [u8]) -> usize
-        requires { 400 ≤ length buffer.old }
+    pub(crate) fn write(&self, buffer: &mut [u8; LIMIT]) -> usize
         ensures length { result ≡ length (frame 400 self.now) }
         ensures buffer { buffer.new ≡ frame 400 self.now ++ drop (length (frame 400 self.now)) buffer.old }
     {
+        // A length over the limit counts as the limit, so that no state is out of bounds.
         let length = self.length.min(LIMIT);
-        buffer[0..length].copy_from_slice(&self.bytes[0..length]);
+        buffer[..length].copy_from_slice(&self.bytes[..length]);
         length
     }
 }
@@ -53,7 +54,6 @@ fn padded(frame: &[u8]) -> [u8; LIMIT]
     ensures { result ≡ padded 400 frame.now }
 {
     let mut bytes = [0; LIMIT];
-    let length = frame.len();
-    bytes[0..length].copy_from_slice(frame);
+    bytes[..frame.len()].copy_from_slice(frame);
     bytes
 }

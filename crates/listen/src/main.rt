@@ -5,8 +5,10 @@
 //! the report, one for the missing packets, and one for each packet that was released.
 #![tactic(auto)]
 
+use capture::Frames;
 use carried::Carried;
 use field::{Bits, Bytes, Residues};
+use frame::{SYMBOLS, WINDOW};
 use receiver::{Answer, Receiver};
 use std::io;
 use std::io::Read;
@@ -14,8 +16,8 @@ use std::io::Read;
 fn main(rt: HostRuntime) -> io::Result<()> {
     let mut input = Vec::new(rt.alloc());
     rt.stdin().read_to_end(&mut input)?;
-    let bytes: &[u8] = &input;
-    match bytes {
+    // The digit chooses a type here and nowhere else, so an enum of fields would only be matched again.
+    match input.as_slice() {
         [b'1', capture @ ..] => listen::<Bits>(&rt, capture),
         [b'2', capture @ ..] => listen::<Bytes>(&rt, capture),
         [b'3', capture @ ..] => listen::<Residues>(&rt, capture),
@@ -25,24 +27,17 @@ fn main(rt: HostRuntime) -> io::Result<()> {
 
 fn listen<C: Carried>(rt: &impl Print, capture: &[u8]) -> io::Result<()> {
     let mut receiver = Receiver::<C>::new();
-    let mut rest = capture;
-    for _turn in 0..capture.len() {
-        let [high, low, tail @ ..] = rest else {
-            return Ok(());
-        };
-        let length = u16::from_be_bytes([*high, *low]) as usize;
-        if length > tail.len() {
-            return rt.println("cut short");
+    for frame in Frames::new(capture) {
+        match frame {
+            Ok(frame) => hear(rt, &mut receiver, frame)?,
+            Err(cut) => println!(rt; "{cut}")?,
         }
-        let (frame, next) = tail.split_at(length);
-        hear(rt, &mut receiver, frame)?;
-        rest = next;
     }
     Ok(())
 }
 
 fn hear<C: Carried>(rt: &impl Print, receiver: &mut Receiver<C>, frame: &[u8]) -> io::Result<()> {
-    let mut numbers = [0; 4096];
+    let mut numbers = [0; SYMBOLS * WINDOW];
     let answer = receiver.arrive(frame, &mut numbers);
     let (released, unseen) = receiver.report();
     match answer {
@@ -52,30 +47,25 @@ fn hear<C: Carried>(rt: &impl Print, receiver: &mut Receiver<C>, frame: &[u8]) -
         }
         Ok(Answer::Repeat) => println!(rt; "repeat report {released} {unseen}")?,
         Err(refusal) => {
-            let number = refusal.number();
-            println!(rt; "refused {number} report {released} {unseen}")?;
+            println!(rt; "refused {} report {released} {unseen}", refusal.number())?
         }
     }
     show_missing(rt, receiver)
 }
 
-fn show_packets(rt: &impl Print, count: u32, numbers: &[u16; 4096]) -> io::Result<()> {
-    for packet in numbers.chunks(128).take(count as usize) {
+fn show_packets(rt: &impl Print, count: u32, numbers: &[u16]) -> io::Result<()> {
+    for packet in numbers.chunks_exact(SYMBOLS).take(count as usize) {
         println!(rt; "packet {packet:?}")?;
     }
     Ok(())
 }
 
 fn show_missing<C: Carried>(rt: &impl Print, receiver: &Receiver<C>) -> io::Result<()> {
-    let mut numbers = [0; 32];
-    match receiver.missing(&mut numbers) {
-        Ok(count) => {
-            if count > 32 {
-                return Ok(());
-            }
-            let missing = &numbers[0..count];
-            println!(rt; "missing {missing:?}")
-        }
-        Err(_) => Ok(()),
+    let mut numbers = [0; WINDOW];
+    if let Ok(count) = receiver.missing(&mut numbers)
+        && let Some(missing) = numbers.get(..count)
+    {
+        println!(rt; "missing {missing:?}")?;
     }
+    Ok(())
 }

@@ -15,7 +15,7 @@ use frame::{Data, STREAM, read_data};
 use refusal::Refusal;
 
 /// What an accepted frame was.
-#[derive(Clone, Copy)]
+#[derive(Clone, Copy, PartialEq, Eq, Debug)]
 pub enum Answer {
     /// Its row is no combination of those accepted before; so many packets were released.
     Fresh(u32),

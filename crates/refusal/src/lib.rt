@@ -7,6 +7,7 @@
 ghost use Rattle.std.specs.Prelude.{◌≡◌};
 ghost use Rattle.refusal.specs.Numbers.{numbered};
 
+use std::error::Error;
 use std::fmt;
 
 #[derive(Clone, Copy, PartialEq, Eq, Debug)]
@@ -46,7 +47,7 @@ impl Refusal {
         self as u8
     }
 
-    // What went wrong, in a sentence for people.
+    // What went wrong, in a sentence for people. A derived Display would have each number in its text a second time.
     fn sentence(self) -> &'static str {
         match self {
             Refusal::ShortBuffer => "a buffer is shorter than the call needs",
@@ -82,8 +83,8 @@ impl Refusal {
 /// The number and what went wrong, for people.
 impl fmt::Display for Refusal {
     fn fmt<W: fmt::Write>(&self, f: &mut fmt::Formatter<W>) -> fmt::Result {
-        let number = self.number();
-        let sentence = self.sentence();
-        write!(f, "{number}: {sentence}")
+        write!(f, "{}: {}", self.number(), self.sentence())
     }
 }
+
+impl Error for Refusal {}

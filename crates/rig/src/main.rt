@@ -6,96 +6,72 @@
 #![tactic(auto)]
 
 use link::{Link, PlainLink, ScriptedLink};
+use refusal::Refusal;
 use source::{Plain, Source, Woven};
-use std::str::SplitWhitespace;
+use std::alloc::Global;
+use std::io;
 
 fn main(rt: HostRuntime) -> anyhow::Result<()> {
     for line in rt.lines(rt.alloc()) {
         let line = line?;
-        command(&rt, line.as_str())?;
+        command(&rt, rt.alloc(), line.as_str())?;
     }
     Ok(())
 }
 
-fn command(rt: &impl Print, line: &str) -> anyhow::Result<()> {
-    let mut words = line.split_whitespace();
-    let Some(word) = words.next() else {
-        return Ok(());
-    };
-    if word == "plain" {
-        return draws(rt, Plain::new(), words);
-    }
-    let Some(first) = words.next() else {
-        return Ok(());
-    };
-    if word == "woven" {
-        return draws(rt, Woven::new(first.parse::<u32>()?), words);
-    }
-    if word == "queue" {
-        return steps(rt, PlainLink::new(), first);
-    }
-    let Some(second) = words.next() else {
-        return Ok(());
-    };
-    match ScriptedLink::new(first.as_bytes()) {
-        Ok(link) => steps(rt, link, second),
-        Err(refusal) => {
-            let number = refusal.number();
-            println!(rt; "refused {number}")?;
-            Ok(())
-        }
+fn command(rt: &impl Print, alloc: Global, line: &str) -> anyhow::Result<()> {
+    let words: Vec<&str> = line.split_whitespace().collect(alloc)?;
+    match words.as_slice() {
+        ["plain", words @ ..] => draws(rt, Plain::new(), words),
+        ["woven", seed, words @ ..] => draws(rt, Woven::new(seed.parse::<u32>()?), words),
+        ["queue", steps, ..] => drive(rt, PlainLink::new(), steps),
+        [_, script, steps, ..] => match ScriptedLink::new(script.as_bytes()) {
+            Ok(link) => drive(rt, link, steps),
+            Err(refusal) => Ok(show_refusal(rt, refusal)?),
+        },
+        _ => Ok(()),
     }
 }
 
-fn draws<S: Source + Drop>(
-    rt: &impl Print,
-    mut source: S,
-    mut words: SplitWhitespace<'_>,
-) -> anyhow::Result<()> {
-    let Some(order) = words.next() else {
+fn draws<S: Source + Drop>(rt: &impl Print, mut source: S, words: &[&str]) -> anyhow::Result<()> {
+    let [order, widths @ ..] = words else {
         return Ok(());
     };
     let order = order.parse::<u16>()?;
-    for width in words {
+    for width in widths {
         let mut slots = [0; 32];
         match source.draw(order, width.parse::<usize>()?, &mut slots) {
             Ok(()) => println!(rt; "{slots:?}")?,
-            Err(refusal) => {
-                let number = refusal.number();
-                println!(rt; "refused {number}")?;
-            }
+            Err(refusal) => show_refusal(rt, refusal)?,
         }
     }
     Ok(())
 }
 
-fn steps<L: Link + Drop>(rt: &impl Print, mut link: L, steps: &str) -> anyhow::Result<()> {
+fn drive<L: Link + Drop>(rt: &impl Print, mut link: L, steps: &str) -> anyhow::Result<()> {
     let mut count = 0u8;
-    for step in steps.bytes() {
+    for step in steps.chars() {
         match step {
-            b'p' => {
+            'p' => {
                 link.put(&[count]);
                 count = count.wrapping_add(1);
             }
-            b'x' => link.put(&[0; 401]),
+            'x' => link.put(&[0; 401]),
             _ => take(rt, &mut link)?,
         }
     }
     Ok(())
 }
 
-fn take<L: Link>(rt: &impl Print, link: &mut L) -> anyhow::Result<()> {
+fn take<L: Link>(rt: &impl Print, link: &mut L) -> io::Result<()> {
     let mut buffer = [0; 400];
     match link.take(&mut buffer) {
-        Ok(Some(length)) => {
-            let first = buffer[0];
-            println!(rt; "{first} of {length}")?;
-        }
-        Ok(None) => rt.println("none")?,
-        Err(refusal) => {
-            let number = refusal.number();
-            println!(rt; "refused {number}")?;
-        }
+        Ok(Some(length)) => println!(rt; "{} of {length}", buffer[0]),
+        Ok(None) => rt.println("none"),
+        Err(refusal) => show_refusal(rt, refusal),
     }
-    Ok(())
+}
+
+fn show_refusal(rt: &impl Print, refusal: Refusal) -> io::Result<()> {
+    println!(rt; "refused {}", refusal.number())
 }
