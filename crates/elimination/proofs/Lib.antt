@@ -1,7 +1,6 @@
 pub mod Turns
 pub mod Seeking
 pub mod Same
-pub mod EveryZero
 pub mod Clearing
 pub mod Reducing
 pub mod Joining

@@ -1,5 +1,5 @@
 -- What a search finds.
-use Rattle.std.proofs.Common.{◌≡◌, ℕ, zero, suc, ◌+◌, ◌<◌, ◌≤◌, Bool, true, false, cond, ◌⊎◌, Some, None, Option, sym, refl, subst, inl, inr, ⊎_elim, arith}
+use Rattle.std.proofs.Common.{◌≡◌, ℕ, zero, suc, ◌+◌, ◌<◌, ◌≤◌, Bool, true, false, cond, ◌⊎◌, MatchOption, Some, None, Option, sym, refl, ap, subst, inl, inr, ⊎_elim, arith}
 use Rattle.std.proofs.lemmas.Bool.{cases_eq}
 use Rattle.elimination.specs.Loops.{seek}
 
@@ -37,3 +37,20 @@ absent p a zero e d l h = absurd (omega arith)
 absent p a (suc n) e d l h =
     let r = cond_none (p a) a (seek p (a + 1) n) e in
     ⊎_elim (λ q. subst (λ j. p j ≡ false) (sym q) r.0) (λ ne. absent p (a + 1) n r.1 d (omega arith) (omega arith)) (cases_eq d a)
+
+-- an answer that says so is the search's: none passes, or the first that does
+pub seek_from : (p : ℕ → Bool) (a n e : ℕ) → a + n ≡ e → (o : Option ℕ) → MatchOption o ((k : ℕ) → a ≤ k → k < e → p k ≡ false) (λ i. (a ≤ i) × (i < e) × (p i ≡ true) × ((k : ℕ) → a ≤ k → k < i → p k ≡ false)) → o ≡ seek p a n
+unfolding seek
+seek_from p a zero e end None h = refl
+seek_from p a zero e end (Some i) h = absurd (let l = h.0 in let m = h.1 in omega arith)
+seek_from p a (suc n) e end None h =
+    let miss : p a ≡ false = h a (omega arith) (omega arith) in
+    rw miss (seek_from p (a + 1) n e (omega arith) None (λ k l m. h k (omega arith) m))
+seek_from p a (suc n) e end (Some i) h =
+    ⊎_elim
+    (λ q. let hit : p a ≡ true = subst (λ j. p j ≡ true) q h.2 in rw hit (ap Some q))
+    (λ ne.
+    let l = h.0 in
+    let miss : p a ≡ false = h.3 a (omega arith) (omega arith) in
+    rw miss (seek_from p (a + 1) n e (omega arith) (Some i) (omega arith, h.1, h.2, λ k f g. h.3 k (omega arith) g)))
+    (cases_eq i a)

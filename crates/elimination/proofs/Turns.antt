@@ -1,5 +1,5 @@
 -- A loop's turn, for the loops of specs/Loops.
-use Rattle.std.proofs.Common.{◌≡◌, ℕ, zero, suc, ◌+◌, ◌<◌, Bool, true, false, Some, None, sym, refl, ap, ◌∙◌, ⊎_elim, add-one, arith}
+use Rattle.std.proofs.Common.{◌≡◌, ℕ, zero, suc, ◌+◌, ◌<◌, Bool, true, false, Some, sym, refl, ap, ◌∙◌, ⊎_elim, add-one, arith}
 use Rattle.std.proofs.lemmas.Bool.{and_from, and_left, and_right, cases_eq}
 use Rattle.elimination.specs.Loops.{turns, seek, every}
 
@@ -22,14 +22,6 @@ unfolding seek
 seek_yes p a zero h t = absurd (omega arith)
 seek_yes p a (suc n) h t = rw t
 
-pub seek_no : (p : ℕ → Bool) (a n m : ℕ) → n ≡ m + 1 → p a ≡ false → seek p a n ≡ seek p (a + 1) m
-unfolding seek
-seek_no p a n m e t = rw (e, add-one m, t)
-
-pub seek-none : (p : ℕ → Bool) (a n : ℕ) → n ≡ 0 → seek p a n ≡ None
-unfolding seek
-seek-none p a n e = rw e
-
 pub every-none : (p : ℕ → Bool) → every p 0 ≡ true
 unfolding every
 every-none p = refl
@@ -43,6 +35,3 @@ unfolding every
 every_not p k zero l h = absurd (omega arith)
 every_not p k (suc n) l h =
     ⊎_elim (λ e. and_right _ _ (rw e at h)) (λ ne. and_left _ _ (every_not p k n (omega arith) h)) (cases_eq k n)
-
-pub every-all : (p : ℕ → Bool) (k n : ℕ) → k ≡ n → every p k ≡ true → true ≡ every p n
-every-all p k n e h = sym (rw e at h)

@@ -1,7 +1,8 @@
 -- What a table answers to a row, and the table after it.
 use Rattle.std.specs.Prelude.{◌≡◌, ℕ, ◌+◌, ◌%◌, cond, Some, None, Option}
 use Rattle.field.specs.Field.{Means}
-use Rattle.elimination.specs.Rows.{zeros, first_from, scaled}
+use Rattle.field.specs.Lists.{zeros}
+use Rattle.elimination.specs.Rows.{first_from, scaled}
 use Rattle.elimination.specs.Tables.{reduced, joined}
 use Rattle.elimination.specs.declared.row.Row.{Row}
 use Rattle.elimination.specs.declared.table.Table.{Table}

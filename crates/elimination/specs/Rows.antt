@@ -1,5 +1,5 @@
 -- Rows with payloads, over a field m. The coefficient of packet k stands at its place k % w in a ring of w.
-use Rattle.std.specs.Prelude.{ℕ, ◌+◌, ◌%◌, Bool, true, not, ◌&&◌, ◌||◌, List, [], ◌∷◌, map, length, Some, None, Option, ◌==◌, slice_index}
+use Rattle.std.specs.Prelude.{ℕ, ◌+◌, ◌%◌, Bool, not, ◌||◌, List, map, length, Some, None, Option, ◌==◌, slice_index}
 use Rattle.std.specs.List.{range_with_len}
 use Rattle.field.specs.Field.{Means, minus, times, inverse}
 use Rattle.elimination.specs.Loops.{seek, every}
@@ -33,11 +33,6 @@ times_row m (Some c) x = record { slots = times_all m c x.slots; payload = times
 -- the row x, scaled to 1 at the place i, where it is not 0
 abbrev pub scaled : Means → ℕ → Row → Row
 scaled m i x = times_row m (inverse m (slice_index x.slots i)) x
-
--- all numbers of a list are 0
-abbrev pub zeros : List ℕ → Bool
-zeros [] = true
-zeros (x ∷ xs) = x == 0 && zeros xs
 
 -- the coefficient i past start is not 0
 abbrev pub nonzero : ℕ → ℕ → Row → ℕ → Bool

@@ -7,5 +7,11 @@
 mod row;
 mod table;
 
+/// How many packets a row combines at most, and how many rows a table holds.
+pub const WINDOW: usize = 32;
+
+/// The symbols of a packet.
+pub const SYMBOLS: usize = 128;
+
 pub use row::{Row, place, subtract, subtract_packet};
 pub use table::{Table, Verdict};

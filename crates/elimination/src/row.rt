@@ -1,30 +1,31 @@
 //! Rows with payloads, in a ring.
 ghost use Rattle.std.specs.Prelude.{◌≡◌, ◌+◌, ◌%◌, ◌<◌, length};
-ghost use Rattle.elimination.specs.Rows.{less_all, less_row, less_packet, times_all, scaled, zeros, first_from, unit_at};
+ghost use Rattle.elimination.specs.Rows.{less_all, less_row, less_packet, times_all, scaled, first_from, unit_at};
 
+use super::{SYMBOLS, WINDOW};
 use field::Field;
 
 /// A combination of packets: the coefficient of packet k stands at the place k % 32, and the payload is what the
 /// packets add up to.
-#[derive(Clone, Copy)]
+#[derive(Clone, Copy, PartialEq, Eq, Debug)]
 #[repr(C)]
 pub struct Row {
-    pub slots: [u16; 32],
-    pub payload: [u16; 128],
+    pub slots: [u16; WINDOW],
+    pub payload: [u16; SYMBOLS],
 }
 
 /// Where packet k stands in a ring of 32.
 pub fn place(k: u32) -> usize
     ensures { result ≡ k % 32 }
 {
-    k as usize % 32
+    k as usize % WINDOW
 }
 
 // Where the packet so far past `start` stands. The sum is taken in 64 bits, where it does not wrap.
 pub(crate) fn place_past(start: u32, distance: u32) -> usize
     ensures { result ≡ (start + distance) % 32 }
 {
-    (start as usize + distance as usize) % 32
+    (start as usize + distance as usize) % WINDOW
 }
 
 /// Subtracts `factor` times the other row from the target.
@@ -39,7 +40,7 @@ pub fn subtract<F: Field>(target: &mut Row, factor: u16, other: &Row)
 }
 
 /// Subtracts `factor` times a known packet from the target's payload.
-pub fn subtract_packet<F: Field>(target: &mut Row, factor: u16, packet: &[u16; 128])
+pub fn subtract_packet<F: Field>(target: &mut Row, factor: u16, packet: &[u16; SYMBOLS])
     ensures { target.new ≡ less_packet F.Field.means factor packet.now target.old }
 {
     subtract_codes::<F>(&mut target.payload, factor, packet);
@@ -49,8 +50,9 @@ fn subtract_codes<F: Field>(target: &mut [u16], factor: u16, other: &[u16])
     requires { length target.old ≡ length other.now }
     ensures { target.new ≡ less_all F.Field.means factor other.now target.old }
 {
-    for i in 0..target.len() {
-        target[i] = F::sub(target[i], F::mul(factor, other[i]));
+    // By its place, since nothing is known of what is written through a zip.
+    for (i, code) in target.iter_mut().enumerate() {
+        *code = F::sub(*code, F::mul(factor, other[i]));
     }
 }
 
@@ -62,23 +64,12 @@ fn scale_codes<F: Field>(codes: &mut [u16], factor: u16)
     }
 }
 
-pub(crate) fn all_zero(codes: &[u16]) -> bool
-    ensures { result ≡ zeros codes.now }
-{
-    field::all_zero(codes)
-}
-
 impl Row {
     // How far past `start` the first coefficient other than 0 stands, of the 32 from `start` on.
     pub(crate) fn first(&self, start: u32) -> Option<u32>
         ensures { result ≡ first_from 32 start self.now }
     {
-        for distance in 0..32 {
-            if self.slots[place_past(start, distance)] != 0 {
-                return Some(distance);
-            }
-        }
-        None
+        (0..WINDOW as u32).find(|distance| self.slots[place_past(start, *distance)] != 0)
     }
 
     // Scales the row to 1 at a place where it is not 0.
@@ -96,8 +87,9 @@ impl Row {
     pub(crate) fn is_unit(&self, at: usize) -> bool
         ensures { result ≡ unit_at 32 at self.now }
     {
-        for i in 0..32 {
-            if i != at && self.slots[i] != 0 {
+        // No `all`: its closure makes the callers copy packets and table, which takes 4% of decoding a window of bits.
+        for (i, slot) in self.slots.iter().enumerate() {
+            if i != at && *slot != 0 {
                 return false;
             }
         }

@@ -5,17 +5,19 @@ ghost use Rattle.elimination.specs.Reduced.{Coded, Reduced};
 ghost use Rattle.elimination.specs.Tables.{no_rows, holding, reduced, joined, solved, without};
 ghost use Rattle.elimination.specs.Absorption.{absorption, absorbed, LeftUnlessInnovative};
 
-use super::row::{Row, all_zero, place, place_past, subtract};
+use super::row::{Row, place, place_past, subtract};
+use super::{SYMBOLS, WINDOW};
 use field::Field;
 
 /// Rows in reduced form: the one that begins at packet k stands at the place k % 32.
 #[derive(Drop)]
 pub struct Table {
-    rows: [Option<Row>; 32],
+    // An array, and no map or list: no memory is asked for below the programs.
+    rows: [Option<Row>; WINDOW],
 }
 
 /// What a row was to the table that it came to.
-#[derive(Clone, Copy)]
+#[derive(Clone, Copy, PartialEq, Eq, Debug)]
 pub enum Verdict {
     /// It is no combination of the table's rows, and joined them; it begins so far past the start.
     Innovative(u32),
@@ -30,7 +32,9 @@ impl Table {
         ensures exact { result ≡ no_rows 32 }
         ensures reduced { (m : Means) (start : ℕ) → Reduced m 32 start result }
     {
-        Table { rows: [None; 32] }
+        Table {
+            rows: [None; WINDOW],
+        }
     }
 
     /// Whether a row begins at packet k.
@@ -48,7 +52,7 @@ impl Table {
     {
         self.reduce::<F>(&mut row);
         let Some(distance) = row.first(start) else {
-            return if all_zero(&row.payload) {
+            return if field::all_zero(&row.payload) {
                 Verdict::Redundant
             } else {
                 Verdict::Contradictory
@@ -61,7 +65,7 @@ impl Table {
     }
 
     /// Where the row that begins at packet k is 0 elsewhere, takes it out and answers its payload, which is packet k.
-    pub fn take_solved(&mut self, k: u32) -> Option<[u16; 128]>
+    pub fn take_solved(&mut self, k: u32) -> Option<[u16; SYMBOLS]>
         ensures packet { result ≡ solved 32 self.old k }
         ensures table { self.new ≡ without (k % 32) result self.old }
         ensures reduced { (m : Means) → is_some result ≡ true → Reduced m 32 k self.old → Reduced m 32 (k + 1) self.new }
@@ -82,8 +86,8 @@ impl Table {
     fn reduce<F: Field>(&self, row: &mut Row)
         ensures { row.new ≡ reduced F.Field.means 32 self.now row.old }
     {
-        for at in 0..32 {
-            if let Some(pivot) = &self.rows[at] {
+        for (at, slot) in self.rows.iter().enumerate() {
+            if let Some(pivot) = slot {
                 let factor = row.slots[at];
                 subtract::<F>(row, factor, pivot);
             }
@@ -95,8 +99,8 @@ impl Table {
         requires { at < 32 }
         ensures { self.new ≡ joined F.Field.means 32 at pivot.now self.old }
     {
-        for i in 0..32 {
-            if let Some(row) = &mut self.rows[i] {
+        for slot in &mut self.rows {
+            if let Some(row) = slot {
                 let factor = row.slots[at];
                 subtract::<F>(row, factor, pivot);
             }

@@ -10,8 +10,10 @@ ghost use Rattle.field.specs.OfResidues.{residues};
 ghost use Rattle.elimination.specs.Rows.{less_row};
 ghost use Rattle.exports.specs.Decoding.{gathered, unloaded, decoded};
 
-use elimination::{Row, Table, subtract};
+use elimination::{Row, SYMBOLS, Table, WINDOW, subtract};
 use field::{Bits, Bytes, Field, Residues};
+
+// A function for each field, since C knows no generic ones, and 0 for no inverse, since it knows no `Option`.
 
 /// The product in the field of bytes.
 #[unsafe(no_mangle)]
@@ -70,9 +72,10 @@ pub extern "C" fn lambjade_residues_subtract(target: &mut Row, factor: u16, othe
 }
 
 /// The first 32 packets of a stream.
+// A struct around one array, since C hands over no array itself.
 #[repr(C)]
 pub struct Packets {
-    pub packets: [[u16; 128]; 32],
+    pub packets: [[u16; SYMBOLS]; WINDOW],
 }
 
 // A new table takes the rows in, one after another.
@@ -80,8 +83,8 @@ fn gathered<F: Field>(rows: &[Row]) -> Table
     ensures { result ≡ gathered F.Field.means 32 rows.now }
 {
     let mut table = Table::new();
-    for i in 0..rows.len() {
-        let _ = table.absorb::<F>(rows[i], 0);
+    for row in rows {
+        let _ = table.absorb::<F>(*row, 0);
     }
     table
 }
@@ -90,9 +93,9 @@ fn gathered<F: Field>(rows: &[Row]) -> Table
 fn unload(table: &mut Table, packets: &mut Packets)
     ensures { packets.new ≡ unloaded 32 table.old packets.old }
 {
-    for k in 0..32u32 {
-        if let Some(packet) = table.take_solved(k) {
-            packets.packets[k as usize] = packet;
+    for (k, place) in packets.packets.iter_mut().enumerate() {
+        if let Some(packet) = table.take_solved(k as u32) {
+            *place = packet;
         }
     }
 }

@@ -1,6 +1,6 @@
--- What holds after every arrival: the bounds are kept, and a refusal has changed nothing.
-use Rattle.std.proofs.Common.{◌≡◌, ℕ, zero, suc, ◌+◌, ◌*◌, ◌<◌, ◌≤◌, Bool, true, false, cond, ltb, List, length, IfErr, Some, None, Ok, Err, Option, Result, sym, refl, subst, ⊎_elim, arith}
-use Rattle.std.proofs.lemmas.Bool.{cases_lt, le-ltb, ltb-false, cond_both}
+-- What holds of every arrival, by its frame: a refusal has changed nothing.
+use Rattle.std.proofs.Common.{◌≡◌, ℕ, ◌+◌, ◌*◌, ◌≤◌, Bool, true, false, cond, ltb, List, length, IfErr, Ok, Err, Result, sym, refl, subst, arith}
+use Rattle.std.proofs.lemmas.Bool.{ltb-false, cond_both}
 use Rattle.refusal.specs.declared.Refusal.{Refusal}
 use Rattle.refusal.specs.declared.Refusal.TheVariants.{ShortBuffer, Late, Ahead}
 use Rattle.field.specs.Field.{Means}
@@ -8,15 +8,12 @@ use Rattle.carried.specs.Carries.{Carries}
 use Rattle.frame.specs.DataFrame.{reading}
 use Rattle.frame.specs.declared.data.Data.{Data}
 use Rattle.elimination.specs.Absorption.{absorbed}
-use Rattle.elimination.specs.Loops.{turns}
 use Rattle.elimination.specs.declared.table.Table.{Table}
 use Rattle.elimination.specs.declared.table.Verdict.{Verdict}
 use Rattle.elimination.specs.declared.table.Verdict.TheVariants.{Innovative, Redundant, Contradictory}
 use Rattle.receiver.specs.Alignment.{aligned}
-use Rattle.receiver.specs.Arrival.{Outcome, arrival, checked, with_table, reaching, decided, judged, accepted, arrived}
+use Rattle.receiver.specs.Arrival.{Outcome, arrival, checked, decided, judged, accepted, arrived}
 use Rattle.receiver.specs.Reach.{reach}
-use Rattle.receiver.specs.Release.{Release, ready, release_one, releasing}
-use Rattle.receiver.specs.Start.{Bounded}
 use Rattle.receiver.specs.declared.state.State.{State}
 
 -- after a check, by its answer
@@ -37,20 +34,6 @@ in_reach : (w r : ℕ) (f : Data) (u : Unit {0}) → reach w r f ≡ Ok u → Ne
 in_reach w r f u e =
     let h = neither (ltb (f.base + w) r) (ltb (r + w) (f.base + f.width)) u e in (ltb-false _ _ h.0, ltb-false _ _ h.1)
 
--- only a number below the stream's end is ready
-ready-below : (w : ℕ) (c : State) (p : List ℕ) → ready w c ≡ Some p → c.released < 65536
-ready-below w c p h =
-    ⊎_elim (λ l. l) (λ g. let z : ◌≡◌ {A = ℕ} 0 1 = cc (rw (le-ltb _ _ g) at h) in absurd (omega arith)) (cases_lt c.released 65536)
-
-one-bounded : (w : ℕ) (r : Release) (o : Option (List ℕ)) → ready w r.state ≡ o → Bounded w r.state → Bounded w (release_one w o r).state
-one-bounded w r None e h = h
-one-bounded w r (Some p) e h = let l = ready-below w r.state p e in (omega arith, omega (arith, h.1))
-
-releasing-bounded : (w : ℕ) (c : State) → Bounded w c → (n : ℕ) → Bounded w (releasing w c n).state
-unfolding turns
-releasing-bounded w c h zero = h
-releasing-bounded w c h (suc n) = one-bounded w (releasing w c n) (ready w (releasing w c n).state) refl (releasing-bounded w c h n)
-
 module _ (m : Means) (carries : Carries) (w : ℕ) (c : State) (bytes numbers : List ℕ) where
   -- what holds of a refusal, and of the answer to each readable frame in reach, holds of an arrival
   pub by_frame : (P : Outcome → Type 0) → ((e : Refusal) → P (arrival (Err e) c numbers)) → ((f : Data) → w * 128 ≤ length numbers → reading m carries w bytes ≡ Ok f → Near w c.released f → P (judged w c f numbers (absorbed m w c.released (aligned m w c f) c.table))) → P (arrived m carries w c bytes numbers)
@@ -61,11 +44,6 @@ module _ (m : Means) (carries : Carries) (w : ℕ) (c : State) (bytes numbers : 
       (λ f r. checked-both P (reach w c.released f) c numbers (λ _. judged w c f numbers (absorbed m w c.released (aligned m w c f) c.table)) refuse
       (λ u e. go f (ltb-false _ _ room) r (in_reach w c.released f u e))))
 
-  decided-bounded : Bounded w c → (f : Data) → Near w c.released f → (t : Table) (v : Verdict) → Bounded w (decided w c f numbers t v).state
-  decided-bounded h f l t (Innovative distance) = releasing-bounded w (reaching f (with_table t c)) (h.0, omega (arith, h.1, l.1)) w
-  decided-bounded h f l t Redundant = (h.0, omega (arith, h.1, l.1))
-  decided-bounded h f l t Contradictory = h
-
   abbrev Unchanged : Outcome → Type 0
   Unchanged a = IfErr a.answer (λ _. (a.state ≡ c) × (a.numbers ≡ numbers))
 
@@ -75,8 +53,5 @@ module _ (m : Means) (carries : Carries) (w : ℕ) (c : State) (bytes numbers : 
   decided_unchanged f t Contradictory = (refl, refl)
 
   module _ (a : Outcome) (is : a ≡ arrived m carries w c bytes numbers) where
-    pub arrived-bounded : Bounded w c → Bounded w a.state
-    arrived-bounded h = subst (λ (r : Outcome). Bounded w r.state) (sym is) (by_frame (λ r. Bounded w r.state) (λ _. h) (λ f _ _ l. decided-bounded h f l _ _))
-
     pub arrived_unchanged : Unchanged a
     arrived_unchanged = subst Unchanged (sym is) (by_frame Unchanged (λ _. (refl, refl)) (λ f _ _ _. decided_unchanged f _ _))

@@ -6,12 +6,13 @@ use Rattle.std.proofs.lemmas.Bool.{both_ways, not-true, not-false, eqb-true, eqb
 use Rattle.refusal.specs.declared.Refusal.{Refusal}
 use Rattle.refusal.specs.declared.Refusal.TheVariants.{Contradiction}
 use Rattle.field.specs.Field.{Means, Laws, inverse}
+use Rattle.field.specs.Lists.{zeros}
 use Rattle.frame.specs.Proper.{Proper}
 use Rattle.frame.specs.declared.data.Data.{Data}
 use Rattle.elimination.proofs.Joining.{joined_length}
 use Rattle.elimination.proofs.Seeking.{Found, found, absent}
 use Rattle.elimination.specs.Absorption.{settled, absorbed, with_pivot}
-use Rattle.elimination.specs.Rows.{times_row, scaled, zeros, nonzero, first_from}
+use Rattle.elimination.specs.Rows.{times_row, scaled, nonzero, first_from}
 use Rattle.elimination.specs.Tables.{row_at, reduced}
 use Rattle.elimination.specs.declared.row.Row.{Row}
 use Rattle.elimination.specs.declared.table.Verdict.TheVariants.{Redundant, Contradictory}

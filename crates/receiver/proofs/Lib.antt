@@ -1,5 +1,6 @@
 pub mod Arrivals
 pub mod Passing
+pub mod Widening
 pub mod Releasing
 pub mod Sounding
 pub mod Rows

@@ -1,3 +1,4 @@
+pub mod Held
 pub mod Start
 pub mod Reach
 pub mod Buffers

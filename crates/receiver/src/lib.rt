@@ -1,6 +1,7 @@
 //! The receiver: it takes frames in, in any order, and releases the packets of the stream in theirs.
 #![tactic(auto)]
 
+mod readable;
 mod receiver;
 mod state;
 

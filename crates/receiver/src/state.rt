@@ -1,20 +1,29 @@
 //! What a receiver holds, and the steps of a frame's arrival.
-ghost use Rattle.std.specs.Prelude.{◌≡◌, ◌+◌, ◌≤◌, length, Ok};
+ghost use Rattle.std.specs.Prelude.{◌≡◌, ◌+◌, Ok};
 ghost use Rattle.receiver.specs.Alignment.{with_packet, aligned};
-ghost use Rattle.receiver.specs.Arrival.{reaching, arrival, fresh, accepted, arrived};
+ghost use Rattle.receiver.specs.Arrival.{arrival, fresh, accepted, arrived};
 ghost use Rattle.receiver.specs.Reach.{reach};
 ghost use Rattle.receiver.specs.Release.{ready, advanced, releasing};
 ghost use Rattle.receiver.specs.Reports.{sees, reported, listed};
 ghost use Rattle.receiver.specs.Start.{at_first};
 ghost use Rattle.receiver.specs.declared.state.Answer.TheVariants.{Fresh};
 
+use super::readable::Readable;
 use carried::Carried;
 use elimination::{Row, Table, Verdict, place, subtract_packet};
 use field::Field;
-use frame::{Data, STREAM, read_data};
+use frame::{STREAM, SYMBOLS, WINDOW};
 use refusal::Refusal;
+use std::marker::Model;
+
+// How far a frame may reach back from the next packet, and past it.
+const REACH: u32 = WINDOW as u32;
+
+// The numbers of as many packets as one arrival may release.
+const ROOM: usize = WINDOW * SYMBOLS;
 
 /// What an accepted frame was.
+// An enum, and no `Option<u32>`: its two names are what the protocol calls the answers.
 #[derive(Clone, Copy, PartialEq, Eq, Debug)]
 pub enum Answer {
     /// Its row is no combination of those accepted before; so many packets were released.
@@ -32,7 +41,21 @@ pub(crate) struct State {
     // Rows of the 32 packets from the next one on.
     table: Table,
     // The last 32 released packets: packet k stands at the place k % 32.
-    kept: [[u16; 128]; 32],
+    // An array, and no map or queue: no memory is asked for below the programs.
+    kept: [[u16; SYMBOLS]; WINDOW],
+}
+
+// Clauses see the fields. The stream has 65,536 packets, and no frame reaches past the window.
+impl Model for State {
+    ghost use Rattle.receiver.specs.Held.{Held};
+
+    ghost Value = { Held };
+
+    ghost use Rattle.receiver.specs.Start.{Bounded};
+
+    ghost view = { λ s. record { released = s.released; top = s.top; table = s.table; kept = s.kept } };
+
+    ghost invariant = { λ s. Bounded 32 (record { released = s.released; top = s.top; table = s.table; kept = s.kept }) };
 }
 
 impl State {
@@ -43,19 +66,18 @@ impl State {
             released: 0,
             top: 0,
             table: Table::new(),
-            kept: [[0; 128]; 32],
+            kept: [[0; SYMBOLS]; WINDOW],
         }
     }
 
     // Refuses a frame that has packets no longer kept, or past the table's end.
-    fn in_reach(&self, frame: &Data) -> Result<(), Refusal>
-        requires { (self.now.released ≤ 65536) × (frame.now.base + frame.now.width ≤ 65536) }
+    fn in_reach(&self, frame: &Readable) -> Result<(), Refusal>
         ensures { result ≡ reach 32 self.now.released frame.now }
     {
-        if frame.base + 32 < self.released {
+        if frame.base() + REACH < self.released {
             return Err(Refusal::Late);
         }
-        if frame.base + frame.width as u32 > self.released + 32 {
+        if frame.end() > self.released + REACH {
             return Err(Refusal::Ahead);
         }
         Ok(())
@@ -73,22 +95,21 @@ impl State {
     }
 
     // The frame's row, of packets that are not released.
-    fn align<F: Field>(&self, frame: &Data) -> Row
-        requires { (frame.now.width ≤ 32) × (frame.now.base + frame.now.width ≤ 65536) }
+    fn align<F: Field>(&self, frame: &Readable) -> Row
         ensures { result ≡ aligned F.Field.means 32 self.now frame.now }
     {
         let mut row = Row {
-            slots: [0; 32],
-            payload: frame.symbols,
+            slots: [0; WINDOW],
+            payload: *frame.symbols(),
         };
-        for i in 0..frame.width {
-            self.enter::<F>(&mut row, frame.base + i as u32, frame.slots[i as usize]);
+        for (i, coefficient) in frame.coefficients().iter().enumerate() {
+            self.enter::<F>(&mut row, frame.base() + i as u32, *coefficient);
         }
         row
     }
 
     // The next packet, where it is known: it leaves the table and is kept.
-    fn next_packet(&mut self) -> Option<[u16; 128]>
+    fn next_packet(&mut self) -> Option<[u16; SYMBOLS]>
         ensures packet { result ≡ ready 32 self.old }
         ensures state { self.new ≡ advanced 32 result self.old }
     {
@@ -102,46 +123,39 @@ impl State {
     }
 
     // Releases packets while the next one is known, and answers how many.
-    fn release(&mut self, numbers: &mut [u16]) -> u32
-        requires { 4096 ≤ length numbers.old }
+    fn release(&mut self, numbers: &mut [u16; ROOM]) -> u32
         ensures { arrival (Ok (Fresh result)) self.new numbers.new ≡ fresh numbers.old (releasing 32 self.old 32) }
     {
-        for count in 0..32u32 {
+        // By its place, since nothing is known of what is written through chunks.
+        for count in 0..REACH {
             let Some(packet) = self.next_packet() else {
                 return count;
             };
-            let start = 128 * count as usize;
-            numbers[start..start + 128].copy_from_slice(&packet);
+            let start = SYMBOLS * count as usize;
+            numbers[start..start + SYMBOLS].copy_from_slice(&packet);
         }
-        32
-    }
-
-    // Notes how far an accepted frame reaches.
-    fn raise(&mut self, frame: &Data)
-        requires { frame.now.base + frame.now.width ≤ 65536 }
-        ensures { self.new ≡ reaching frame.now self.old }
-    {
-        self.top = self.top.max(frame.base + frame.width as u32);
+        REACH
     }
 
     // Takes in a readable frame.
-    fn accept<F: Field>(&mut self, frame: &Data, numbers: &mut [u16]) -> Result<Answer, Refusal>
-        requires { (4096 ≤ length numbers.old) × ((self.old.released ≤ 65536) × ((frame.now.width ≤ 32) × (frame.now.base + frame.now.width ≤ 65536))) }
+    fn accept<F: Field>(
+        &mut self,
+        frame: &Readable,
+        numbers: &mut [u16; ROOM],
+    ) -> Result<Answer, Refusal>
         ensures { arrival result self.new numbers.new ≡ accepted F.Field.means 32 self.old frame.now numbers.old }
     {
         self.in_reach(frame)?;
         let row = self.align::<F>(frame);
-        match self.table.absorb::<F>(row, self.released) {
-            Verdict::Innovative(_) => {
-                self.raise(frame);
-                Ok(Answer::Fresh(self.release(numbers)))
-            }
-            Verdict::Redundant => {
-                self.raise(frame);
-                Ok(Answer::Repeat)
-            }
-            Verdict::Contradictory => Err(Refusal::Contradiction),
+        let verdict = self.table.absorb::<F>(row, self.released);
+        if let Verdict::Contradictory = verdict {
+            return Err(Refusal::Contradiction);
         }
+        self.top = self.top.max(frame.end());
+        Ok(match verdict {
+            Verdict::Innovative(_) => Answer::Fresh(self.release(numbers)),
+            _ => Answer::Repeat,
+        })
     }
 
     // Takes in the bytes of a frame.
@@ -150,51 +164,42 @@ impl State {
         frame: &[u8],
         numbers: &mut [u16],
     ) -> Result<Answer, Refusal>
-        requires { self.old.released ≤ 65536 }
         ensures { arrival result self.new numbers.new ≡ arrived C.Field.means C.carries 32 self.old frame.now numbers.old }
     {
-        if numbers.len() < 4096 {
+        let Some(numbers) = numbers.first_chunk_mut::<ROOM>() else {
             return Err(Refusal::ShortBuffer);
-        }
-        let data = read_data::<C>(frame)?;
-        self.accept::<C>(&data, numbers)
+        };
+        let frame = Readable::read::<C>(frame)?;
+        self.accept::<C>(&frame, numbers)
     }
 
     // Whether packet k is released, or a row begins there.
     fn sees(&self, k: u32) -> bool
-        requires { self.now.released ≤ 65536 }
         ensures { result ≡ sees 32 self.now k }
     {
-        k < self.released || (k < self.released + 32 && self.table.holds(k))
+        k < self.released || (k < self.released + REACH && self.table.holds(k))
     }
 
     // The released count and the oldest unseen number.
     pub(crate) fn report(&self) -> (u32, u32)
-        requires { self.now.released ≤ 65536 }
         ensures { result ≡ reported 32 self.now }
     {
-        for k in self.released..STREAM {
-            if !self.sees(k) {
-                return (self.released, k);
-            }
-        }
-        (self.released, STREAM)
+        let unseen = (self.released..STREAM).find(|k| !self.sees(*k));
+        (self.released, unseen.unwrap_or(STREAM))
     }
 
     // The unseen numbers that an accepted frame reached.
     pub(crate) fn missing(&self, numbers: &mut [u32]) -> Result<usize, Refusal>
-        requires { (self.now.released ≤ 65536) × (self.now.top ≤ self.now.released + 32) }
         ensures { (result, numbers.new) ≡ listed 32 self.now numbers.old }
     {
-        if numbers.len() < 32 {
+        if numbers.len() < WINDOW {
             return Err(Refusal::ShortBuffer);
         }
+        // By its place, since nothing is known of what is written through a zip.
         let mut count = 0;
-        for k in self.released..self.top {
-            if !self.sees(k) {
-                numbers[count] = k;
-                count += 1;
-            }
+        for k in (self.released..self.top).filter(|k| !self.sees(*k)) {
+            numbers[count] = k;
+            count += 1;
         }
         Ok(count)
     }

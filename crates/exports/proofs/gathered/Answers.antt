@@ -1,19 +1,12 @@
-use Rattle.std.proofs.Common.{◌≡◌, length, ap, ◌∙◌, arith}
+use Rattle.std.proofs.Common.{ap, ◌∙◌}
 use Rattle.elimination.proofs.Turns.{turns-none, turns_more}
-use Rattle.elimination.specs.Loops.{turns}
-use Rattle.elimination.specs.Tables.{no_rows}
 use Rattle.exports.specs.Decoding.{gather_one}
 use Rattle.exports.proofs.gathered.Goals as goal
 
-pub loop-i-init : goal.loop-i-init
-loop-i-init g c = c.new-table.ensures.exact ∙ turns-none _ _
+pub loop-row-init : goal.loop-row-init
+loop-row-init g c = c.new-table.ensures.exact ∙ turns-none _ _
 
-pub loop-i-preserved : goal.loop-i-preserved
-loop-i-preserved g c =
-    turns_more (gather_one g.F.Field.means 32 c.args.rows.now) _ _ c.loop-i.table _ c.loop-i.invariant
+pub loop-row-preserved : goal.loop-row-preserved
+loop-row-preserved g c =
+    turns_more (gather_one g.F.Field.means 32 c.args.rows.now) _ _ c.loop-row.table _ c.loop-row.invariant
     (ap (λ a. a.table) c.absorb.ensures.exact)
-
-pub returns : goal.returns
-returns g c =
-    let all : c.loop-i.i ≡ length c.args.rows.now = omega arith in
-    c.loop-i.invariant ∙ ap (turns (gather_one g.F.Field.means 32 c.args.rows.now) (no_rows 32)) all

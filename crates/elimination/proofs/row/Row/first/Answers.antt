@@ -1,18 +1,10 @@
-use Rattle.std.proofs.Common.{get_or, sym, ap, ◌∙◌, arith}
-use Rattle.std.proofs.lemmas.Bool.{not_from_true, not_from_false, eq-eqb, ne_eqb}
-use Rattle.elimination.proofs.Turns.{seek_yes, seek_no, seek-none}
+use Rattle.std.proofs.Common.{◌≡◌, true, false, refl, rules, tests}
+use Rattle.std.proofs.lemmas.Iterator.{first_from_Range}
+use Rattle.elimination.proofs.Seeking.{seek_from}
 use Rattle.elimination.specs.Rows.{nonzero}
 use Rattle.elimination.proofs.row.Row.first.Goals as goal
 
-pub returns-then-self-place_past-ne0 : goal.returns-then-self-place_past-ne0
-returns-then-self-place_past-ne0 c =
-    let at = ap (λ k. get_or c.args.self.now.slots k 0) c.place_past.ensures in
-    sym (c.loop-distance.invariant ∙ seek_yes (nonzero 32 c.args.start c.args.self.now) _ _ (omega arith) (not_from_false _ (ne_eqb _ _ (λ z. c.if-self-place_past-ne0.true (at ∙ z)))))
-
-pub loop-distance-preserved : goal.loop-distance-preserved
-loop-distance-preserved c =
-    let at = ap (λ k. get_or c.args.self.now.slots k 0) c.place_past.ensures in
-    c.loop-distance.invariant ∙ seek_no (nonzero 32 c.args.start c.args.self.now) _ _ _ (omega arith) (not_from_true _ (eq-eqb _ _ (sym at ∙ c.if-self-place_past-ne0.false)))
-
 pub returns : goal.returns
-returns c = sym (c.loop-distance.invariant ∙ seek-none _ _ _ (omega arith))
+returns c =
+    let p = nonzero 32 c.args.start c.args.self.now in
+    seek_from p 0 32 32 refl _ (first_from_Range _ _ _ _ (λ k. p k ≡ true) (λ k. p k ≡ false) c.find.ensures.ran (λ x q k. search (rules, tests)) (λ x q k. search (rules, tests)))

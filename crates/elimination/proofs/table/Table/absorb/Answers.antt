@@ -5,12 +5,8 @@ use Rattle.elimination.specs.Reduced.{Reduced}
 use Rattle.elimination.specs.declared.table.Verdict.TheVariants.{Innovative}
 use Rattle.elimination.proofs.table.Table.absorb.Goals as goal
 
-pub returns : goal.returns
-returns g c =
+pub returns-clause-reduced : goal.returns-clause-reduced
+returns-clause-reduced g c =
     let m = g.F.Field.means in
     let e : absorption (Innovative c.in-Some.distance) c.insert.new.self ≡ absorbed m 32 c.args.start c.args.row c.args.self.now = search rules in
-    record {
-      reduced = λ coded red. subst (λ (a : Absorption). Reduced m 32 c.args.start a.table) (sym e) (absorbed-reduced m g.met.F.Field.laws 32 c.args.start c.args.self.now red c.args.row coded);
-      left = tt;
-      exact = e;
-    }
+    λ coded red. subst (λ (a : Absorption). Reduced m 32 c.args.start a.table) (sym e) (absorbed-reduced m g.met.F.Field.laws 32 c.args.start c.args.self.now red c.args.row coded)

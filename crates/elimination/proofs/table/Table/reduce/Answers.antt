@@ -12,7 +12,7 @@ pub loop-at-preserved : goal.loop-at-preserved
 loop-at-preserved g c =
     let by = λ (o : Option Row). reduced_by g.F.Field.means c.loop-at.at o c.loop-at.row in
     turns_more (λ i. reduced_by g.F.Field.means i (row_at c.args.self.now i)) _ _ c.loop-at.row _ c.loop-at.invariant
-    (elim c.match-self-at.branch [
+    (elim c.match-slot.branch [
       | in-Some w ↦ by_case by _ _ _ _ w.row-is w.subtract.ensures w.in-Some.is
       | in_default w ↦ by_case by _ _ _ _ w.row-is refl w.in_default.is
     ])

@@ -1,14 +1,10 @@
 use Rattle.std.proofs.Common.{◌∷◌, refl, lit<}
-use Rattle.receiver.proofs.Arrivals.{arrived-bounded, arrived_unchanged}
+use Rattle.receiver.proofs.Arrivals.{arrived_unchanged}
 use Rattle.receiver.proofs.Faith.{read-only-proper, promised}
 use Rattle.receiver.proofs.Sounding.{arrived-sound}
 use Rattle.receiver.specs.Arrival.{arrival}
 use Rattle.receiver.specs.Log.{call}
 use Rattle.receiver.proofs.receiver.Receiver.arrive.Goals as goal
-
-pub invariant_of-self : goal.invariant_of-self
-invariant_of-self g c =
-    record { bounded = arrived-bounded g.C.Field.means g.C.Carried.carries 32 c.args.self.now.state c.args.frame.now c.args.numbers.now _ c.arrive.ensures c.args.self.now.bounded }
 
 pub returns : goal.returns
 returns g c =

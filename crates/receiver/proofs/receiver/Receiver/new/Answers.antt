@@ -5,12 +5,10 @@ use Rattle.receiver.specs.declared.state.State.{State}
 use Rattle.receiver.proofs.Faith.{promised}
 use Rattle.receiver.proofs.receiver.Receiver.new.Goals as goal
 
-pub returns : goal.returns
-returns g c =
-    let m = g.C.Field.means in
-    record {
-      exact = c.new.ensures;
-      reduced = subst (λ (s : State). Sound m 32 s) (sym c.new.ensures) (no_rows-reduced m 32 0);
-      starts = c.new.ensures;
-      stands = promised m g.met.C.Field.laws g.C.Carried.carries 32 (lit< tt) g.met.C.Carried.lays refl [] (at_first 32) refl;
-    }
+pub returns-clause-reduced : goal.returns-clause-reduced
+returns-clause-reduced g c =
+    let m = g.C.Field.means in subst (λ (s : State). Sound m 32 s) (sym c.new.ensures) (no_rows-reduced m 32 0)
+
+pub returns-clause-stands : goal.returns-clause-stands
+returns-clause-stands g c =
+    promised g.C.Field.means g.met.C.Field.laws g.C.Carried.carries 32 (lit< tt) g.met.C.Carried.lays refl [] (at_first 32) refl

@@ -1,34 +1,53 @@
-use Rattle.std.proofs.Common.{◌≡◌, ◌+◌, ◌-◌, ◌++◌, length, filter, sym, ap, ◌∙◌, arith}
-use Rattle.std.proofs.lemmas.Bool.{not_from_true, not_from_false, cond-false, le-ltb}
-use Rattle.std.specs.List.{range_with_len}
-use Rattle.receiver.proofs.Passing.{passing, passing-none, passing_yes, passing_no, turn_yes, turn_no, written_all}
+use Rattle.std.proofs.Common.{◌≡◌, ◌-◌, ◌<◌, ◌≤◌, length, get_or, refl, sym, ap, ◌∙◌, subst, arith, rules, tests}
+use Rattle.std.proofs.lemmas.Iterator.{YieldsList-from_range}
+use Rattle.std.proofs.lemmas.Iterator.Consumers.{YieldsList-at, YieldsList-from_filter, YieldsList-turn, YieldsList-end}
+use Rattle.std.proofs.lemmas.Bool.{cond-false, le-ltb}
+use Rattle.std.proofs.lemmas.List.{length_push}
+use Rattle.receiver.proofs.Passing.{unseen_few, write_next, written_all}
+use Rattle.receiver.specs.Held.{Held}
 use Rattle.receiver.specs.Reports.{lacks, unseen}
+use Rattle.receiver.specs.Start.{Bounded}
 use Rattle.receiver.proofs.state.State.missing.Goals as goal
-use Rattle.receiver.proofs.state.State.missing.Goals.{then-not-sees, else-not-sees}
 
-pub loop-k-init : goal.loop-k-init
-loop-k-init c =
-    let none = passing-none (lacks 32 c.args.self.now) c.args.self.now.released in
-    (sym (ap (λ u. u ++ c.args.numbers.now) none), ap length none, omega arith, omega arith)
+-- the number of this turn is the next unseen one
+turn : (c : goal.In-Some) → (length c.loop-k.yielded < length (unseen 32 c.args.self.now)) × (c.in-Some.k ≡ get_or (unseen 32 c.args.self.now) (length c.loop-k.yielded) c.in-Some.k)
+unfolding unseen
+turn c =
+    let s = c.args.self.now in
+    let from = ap (λ (h : Held). h.released) c.self.view_is in
+    let to = ap (λ (h : Held). h.top) c.self.view_is in
+    YieldsList-turn
+    (YieldsList-at (c.into_iter-k-iterator.ensures.into_iter_gives)
+    (YieldsList-from_filter _ (lacks 32 s) (YieldsList-from_range s.released s.top (s.top - s.released) (cc) refl) c.filter-k-items.ensures.closure (λ x b q k. search (rules, tests))))
+    c.loop-k.yielded _ c.loop-k.yielded_by _ _ c.in-Some.k c.in-Some.is c.next.ensures.steps
+
+few : (c : goal.In-Some) → length (unseen 32 c.args.self.now) ≤ 32
+few c = unseen_few 32 c.args.self.now (subst (λ (h : Held). Bounded 32 h) c.self.view_is c.self.invariant)
+
+pub bounds-numbers-count : goal.bounds-numbers-count
+bounds-numbers-count c = omega (arith, (turn c).0, few c, c.loop-k.invariant.2)
+
+pub offset_bounds-numbers-count : goal.offset_bounds-numbers-count
+offset_bounds-numbers-count c = omega (arith, (turn c).0, few c, c.loop-k.invariant.2)
+
+pub overflow_add-count : goal.overflow_add-count
+overflow_add-count c = omega (arith, (turn c).0, few c, c.loop-k.invariant.2)
 
 pub loop-k-preserved : goal.loop-k-preserved
 loop-k-preserved c =
-    let s = c.args.self.now in let p = lacks 32 s in let k = c.loop-k.k in let d = c.args.numbers.now in
-    elim c.if-not-sees.branch [
-      | then-not-sees w ↦
-          (let t = turn_yes (passing p s.released k) (passing p s.released (k + 1)) d c.loop-k.numbers c.if-not-sees.numbers c.loop-k.count c.if-not-sees.count k
-          (omega arith) c.loop-k.invariant.0 c.loop-k.invariant.1 (passing_yes p s.released k (omega arith) (not_from_false _ (sym c.sees.ensures ∙ w.if-not-sees.true))) w.numbers-is w.count-is in
-          (t.0, t.1, omega (arith, w.count-is), omega arith))
-      | else-not-sees w ↦
-          (let t = turn_no (passing p s.released k) (passing p s.released (k + 1)) d c.loop-k.numbers c.if-not-sees.numbers c.loop-k.count c.if-not-sees.count
-          c.loop-k.invariant.0 c.loop-k.invariant.1 (passing_no p s.released k (omega arith) (not_from_true _ (sym c.sees.ensures ∙ w.if-not-sees.false))) w.numbers-is w.count-is in
-          (t.0, t.1, omega (arith, w.count-is), omega arith))
-    ]
+    let t = turn c in let f = few c in let n = c.loop-k.invariant.2 in
+    let here : c.in-Some.k ≡ get_or (unseen 32 c.args.self.now) c.loop-k.count c.in-Some.k = t.1 ∙ ap (λ i. get_or (unseen 32 c.args.self.now) i c.in-Some.k) (sym n) in
+    (search rules, tt, omega (arith, length_push c.loop-k.yielded c.in-Some.k), write_next (unseen 32 c.args.self.now) c.args.numbers.now c.loop-k.numbers c.loop-k.count c.in-Some.k (omega arith) (omega arith) c.loop-k.invariant.3 here)
 
 pub returns : goal.returns
 unfolding unseen
 returns c =
     let s = c.args.self.now in
-    let e : c.loop-k.k - s.released ≡ s.top - s.released = omega arith in
-    written_all _ _ _ _ _ c.loop-k.invariant.0 c.loop-k.invariant.1 (ap (λ n. filter (lacks 32 s) (range_with_len s.released n)) e)
-    ∙ sym (cond-false _ _ _ (le-ltb _ _ c.if-numbers-lt32.false))
+    let from = ap (λ (h : Held). h.released) c.self.view_is in
+    let to = ap (λ (h : Held). h.top) c.self.view_is in
+    let end = YieldsList-end
+    (YieldsList-at (c.into_iter-k-iterator.ensures.into_iter_gives)
+    (YieldsList-from_filter _ (lacks 32 s) (YieldsList-from_range s.released s.top (s.top - s.released) (cc) refl) c.filter-k-items.ensures.closure (λ x b q k. search (rules, tests))))
+    c.loop-k.yielded _ c.loop-k.yielded_by _ _ c.in-None.is c.next.ensures.steps in
+    written_all (unseen 32 s) c.args.numbers.now c.loop-k.numbers c.loop-k.count (c.loop-k.invariant.2 ∙ end.1) c.loop-k.invariant.3
+    ∙ sym (cond-false _ _ _ (le-ltb _ _ c.if-numbers-lt-WINDOW.false))

@@ -1,6 +1,6 @@
 use Rattle.std.proofs.Common.{◌≡◌, ◌+◌, ◌-◌, ◌*◌, Ok, ap, ◌∙◌, arith, rules}
 use borrow.Rule.Slice.PartMut.{put_mid}
-use Rattle.receiver.proofs.Releasing.{so_far-none, so_far_more, so_far_stop, so_far-all}
+use Rattle.receiver.proofs.Releasing.{so_far-none, so_far_more, so_far_stop}
 use Rattle.receiver.specs.Arrival.{arrival}
 use Rattle.receiver.specs.declared.state.Answer.TheVariants.{Fresh}
 use Rattle.receiver.proofs.state.State.release.Goals as goal
@@ -19,6 +19,3 @@ pub returns-in_default : goal.returns-in_default
 returns-in_default c =
     ap (λ s. arrival (Ok (Fresh c.loop-count.count)) s c.loop-count.numbers) c.in_default.ensures.state
     ∙ so_far_stop _ _ _ _ _ _ c.loop-count.invariant (omega arith) c.in_default.ensures.packet
-
-pub returns : goal.returns
-returns c = so_far-all _ _ _ _ _ _ c.loop-count.invariant (omega arith)

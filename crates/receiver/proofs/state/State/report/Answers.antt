@@ -1,20 +1,17 @@
-use Rattle.std.proofs.Common.{unwrap_or, sym, ap, ◌∙◌, arith}
-use Rattle.std.proofs.lemmas.Bool.{not_from_true, not_from_false}
-use Rattle.elimination.proofs.Turns.{seek_yes, seek_no, seek-none}
+use Rattle.std.proofs.Common.{◌≡◌, ◌-◌, true, false, ap, arith, rules, tests}
+use Rattle.std.proofs.lemmas.Iterator.{first_from_Range}
+use Rattle.elimination.proofs.Seeking.{seek_from}
+use Rattle.elimination.specs.Loops.{seek}
+use Rattle.receiver.specs.Held.{Held}
 use Rattle.receiver.specs.Reports.{lacks}
 use Rattle.receiver.proofs.state.State.report.Goals as goal
 
-pub returns-then-not-sees : goal.returns-then-not-sees
-returns-then-not-sees c =
-    let s = c.args.self.now in
-    ap (λ o. (s.released, unwrap_or o 65536))
-    (sym (c.loop-k.invariant ∙ seek_yes (lacks 32 s) c.loop-k.k _ (omega arith) (not_from_false _ (sym c.sees.ensures ∙ c.if-not-sees.true))))
-
-pub loop-k-preserved : goal.loop-k-preserved
-loop-k-preserved c =
-    c.loop-k.invariant ∙ seek_no (lacks 32 c.args.self.now) _ _ _ (omega arith) (not_from_true _ (sym c.sees.ensures ∙ c.if-not-sees.false))
-
 pub returns : goal.returns
 returns c =
-    let s = c.args.self.now in
-    ap (λ o. (s.released, unwrap_or o 65536)) (sym (c.loop-k.invariant ∙ seek-none (lacks 32 s) c.loop-k.k _ (omega arith)))
+    let q = c.self.inside in
+    let p = lacks 32 c.args.self.now in
+    let from = ap (λ (h : Held). h.released) c.self.view_is in
+    let first : c.find-unseen.result ≡ seek p q.released (65536 - q.released) =
+    seek_from p q.released (65536 - q.released) 65536 (omega (arith, c.self.invariant.0)) _
+    (first_from_Range _ _ _ _ (λ k. p k ≡ true) (λ k. p k ≡ false) c.find-unseen.ensures.ran (λ x q k. search (rules, tests)) (λ x q k. search (rules, tests))) in
+    cc
