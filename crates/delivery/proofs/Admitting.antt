@@ -17,16 +17,11 @@ use Rattle.delivery.specs.Phases.{file_packet, count_of}
 use Rattle.delivery.specs.Rounds.{Course, granted, admit_one, admitting, admit_all_lem}
 use Rattle.delivery.proofs.Courses.{admitted-course, runs_on}
 
--- a file's packet, by what the call for it answered
-pub packet-is : (size : ℕ) (x y : List ℕ) → size ≤ 16000 → ◌≡◌ {A = Result (List ℕ) Refusal} (Ok x) (cond (ltb 16000 size) (Err LongFile) (Ok y)) → x ≡ y
-packet-is size x y h e =
-    let short : ◌≡◌ {A = Result (List ℕ) Refusal} (cond (ltb 16000 size) (Err LongFile) (Ok y)) (Ok y) = cond-false (ltb 16000 size) _ _ (le-ltb 16000 size h) in
-    cc
-
+-- a short file has its packet
 pub packet_there : (size : ℕ) (why : Refusal) (y : List ℕ) → size ≤ 16000 → ◌≡◌ {A = Result (List ℕ) Refusal} (Err why) (cond (ltb 16000 size) (Err LongFile) (Ok y)) → ⊥
 packet_there size why y h e =
     let short : ◌≡◌ {A = Result (List ℕ) Refusal} (cond (ltb 16000 size) (Err LongFile) (Ok y)) (Ok y) = cond-false (ltb 16000 size) _ _ (le-ltb 16000 size h) in
-    let z : ◌≡◌ {A = ℕ} 0 1 = cc in omega arith
+    cc
 
 -- one packet more
 more-packets : (q : ℕ) (file : List ℕ) (t : ℕ) (list : List (List ℕ)) → FirstPackets q file t list → t < packets (spelling_of q) (length file)

@@ -5,7 +5,12 @@ use Rattle.link.specs.declared.plain.PlainLink.{PlainLink}
 use Rattle.link.specs.declared.scripted.ScriptedLink.{ScriptedLink}
 use Rattle.receiver.specs.declared.state.Answer.{Answer}
 use Rattle.transfer.specs.Log.{Event, admitted}
-use Rattle.transfer.specs.Parts.{Parts, State}
+use Rattle.field.specs.Field.{Means, Laws}
+use Rattle.carried.specs.Carries.{Carries, Lays}
+use Rattle.source.specs.Source.{Draws, DrawsLaws}
+use Rattle.link.specs.Waiting.{plain_laws, scripted_laws}
+use Rattle.transfer.specs.Parts.{Parts, PartsLaws, State}
+use Rattle.delivery.specs.Outcome.{linked}
 use Rattle.transfer.specs.Run.{Leads}
 use Rattle.transfer.specs.Steps.{Called, called, Fetched, fetched, admits, coded, sends, fetch_takes, fetches, hear_takes, hears}
 use Rattle.delivery.specs.Follows.{FirstPackets, Runs}
@@ -55,4 +60,14 @@ runs_on p file shut t log σ τ h e leads same-seal same = record {
   is_sealed = same-seal ∙ h.is_sealed;
   is_file = h.is_file;
   stream = subst (FirstPackets p.means.q file t) (sym same) h.stream;
+}
+
+-- the parts of a job's transfer keep their laws
+pub linked_laws : {S : Type 0} (m : Means) (carries : Carries) (draws : Draws S) → Laws m → Lays 32 m.q carries → DrawsLaws 32 draws → PartsLaws 32 (linked m carries draws)
+linked_laws m carries draws means lays random = record {
+  means = means;
+  carries = lays;
+  draws = random;
+  forward = scripted_laws 400;
+  reverse = plain_laws 400;
 }

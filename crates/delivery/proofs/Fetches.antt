@@ -5,7 +5,6 @@ use Rattle.refusal.specs.declared.Refusal.{Refusal}
 use Rattle.file.specs.Filled.{FilledOver}
 use Rattle.file.specs.Packets.{packet_of}
 use Rattle.file.specs.Spelling.{spelling_of}
-use Rattle.file.specs.declared.filling.Filling.{Filling}
 use Rattle.link.specs.declared.plain.PlainLink.{PlainLink}
 use Rattle.link.specs.declared.scripted.ScriptedLink.{ScriptedLink}
 use Rattle.receiver.specs.Log.{Arrival, call, packets, released, fresh_count, fresh_one}
@@ -14,27 +13,20 @@ use Rattle.receiver.specs.declared.state.Answer.TheVariants.{Fresh, Repeat}
 use Rattle.transfer.proofs.Standing.{stands}
 use Rattle.transfer.specs.Log.{Event, arriving, arrivals, admitted, sendings}
 use Rattle.transfer.specs.Parts.{Parts, PartsLaws, State}
-use Rattle.transfer.specs.Steps.{fetched, fetch_takes, fetches}
+use Rattle.transfer.specs.Steps.{fetched, some, fetch_takes, fetches}
 use Rattle.delivery.specs.declared.progress.Progress.{Progress}
-use Rattle.delivery.specs.declared.tally.Tally.{Tally}
-use Rattle.delivery.specs.Follows.{Follows}
+use Rattle.job.specs.declared.tally.Tally.{Tally}
+use Rattle.job.specs.Counts.{answered_with, released_by}
+use Rattle.delivery.specs.Follows.{Follows, Keeps, Small}
+use Rattle.delivery.proofs.Answers.{counted_one, released_few}
 use Rattle.delivery.specs.Outcome.{repeat_count, repeat_one, refused_count, refused_one}
 use Rattle.delivery.specs.Rounds.{Course, fetch_one}
 use Rattle.delivery.proofs.Courses.{fetched-course, runs_on}
-use Rattle.delivery.proofs.Fetching.{packets-at, packets-count, logged}
+use Rattle.delivery.proofs.Fetching.{packets-at, packets-count, logged, logged_call}
 
--- what is kept, with another number buffer, other counts and another record
-abbrev pub kept : {C : Type 0} → Progress C → ℕ → Tally → List ℕ → Filling C → Progress C
-kept v n x numbers filling = record { heard = v.heard; released = n; tally = x; numbers = numbers; filling = filling }
-
-abbrev pub one_fresh : Tally → Tally
-one_fresh x = record { sent = x.sent; fresh = x.fresh + 1; repeat = x.repeat; refused = x.refused }
-
-abbrev pub one_repeat : Tally → Tally
-one_repeat x = record { sent = x.sent; fresh = x.fresh; repeat = x.repeat + 1; refused = x.refused }
-
-abbrev pub one_refused : Tally → Tally
-one_refused x = record { sent = x.sent; fresh = x.fresh; repeat = x.repeat; refused = x.refused + 1 }
+-- what is kept, with another number buffer
+abbrev pub with_numbers : {C : Type 0} → List ℕ → Progress C → Progress C
+with_numbers numbers v = record { heard = v.heard; released = v.released; tally = v.tally; numbers = numbers; filling = v.filling }
 
 -- the counts by a receiver's log
 abbrev counted : List Event → List Arrival → Tally
@@ -50,6 +42,20 @@ counted-more : (log : List Event) (calls : List Arrival) (f before : List ℕ) (
 counted-more log calls f before r after x e =
     ap (λ (y : Tally). record { sent = y.sent; fresh = y.fresh + fresh_one r; repeat = y.repeat + repeat_one r; refused = y.refused + refused_one r }) e
 
+-- an answer of a receiver, as the log counts it
+answered-counts : (a : Result Answer Refusal) (x : Tally)
+    → answered_with a x ≡ record { sent = x.sent; fresh = x.fresh + fresh_one a; repeat = x.repeat + repeat_one a; refused = x.refused + refused_one a }
+answered-counts (Ok (Fresh n)) x = same_tally _ _ _ _ _ _ _ _ refl refl (sym (add-zero x.repeat)) (sym (add-zero x.refused))
+answered-counts (Ok Repeat) x = same_tally _ _ _ _ _ _ _ _ refl (sym (add-zero x.fresh)) refl (sym (add-zero x.refused))
+answered-counts (Err why) x = same_tally _ _ _ _ _ _ _ _ refl (sym (add-zero x.fresh)) (sym (add-zero x.repeat)) refl
+
+released-more : (a : Result Answer Refusal) (calls : List Arrival) (f before after : List ℕ)
+    → length (released (call f before a after ∷ calls)) ≡ length (released calls) + released_by a
+released-more (Ok (Fresh n)) calls f before after =
+    length-append (released calls) (packets n after) ∙ ap (λ (k : ℕ). length (released calls) + k) (packets-count n after)
+released-more (Ok Repeat) calls f before after = length-append (released calls) []
+released-more (Err why) calls f before after = length-append (released calls) []
+
 module _
     {S C : Type 0} (p : Parts S ScriptedLink PlainLink) (file before : List ℕ) (shut : Bool) (t : ℕ) (c : Course S ScriptedLink PlainLink)
     (σ τ : State S ScriptedLink PlainLink) (v : Progress C) (buffer : List ℕ) (h : Follows p file before shut t c σ v buffer)
@@ -58,65 +64,42 @@ module _
     abbrev new_calls : Result (Option Answer) Refusal → List Arrival
     new_calls r = arriving (fetch_takes 32 p σ v.numbers) v.numbers r after (arrivals c.log)
 
-    keeps : (r : Result (Option Answer) Refusal) → fetched r τ after ≡ fetches 32 p σ v.numbers → (n : ℕ) (x : Tally) (filling : Filling C) (b : List ℕ)
-        → x ≡ counted c.log (new_calls r) → length (released (new_calls r)) ≡ n → FilledOver (spelling_of p.means.q) file n filling.taken filling.size before b
-        → Follows p file before shut t (fetch_one 32 p c) τ (kept v n x after filling) b
-    keeps r e n x filling b same-counts same-released filled =
-        subst (λ (d : Course S ScriptedLink PlainLink). Follows p file before shut t d τ (kept v n x after filling) b) (sym (fetched-course p c σ τ h.state v.numbers h.numbers r after e))
+    keeps : (r : Result (Option Answer) Refusal) → fetched r τ after ≡ fetches 32 p σ v.numbers → (u : Progress C) (b : List ℕ)
+        → u.heard ≡ v.heard → u.numbers ≡ after → u.tally ≡ counted c.log (new_calls r) → length (released (new_calls r)) ≡ u.released
+        → FilledOver (spelling_of p.means.q) file u.released u.filling.taken u.filling.size before b
+        → Follows p file before shut t (fetch_one 32 p c) τ u b
+    keeps r e u b same-heard same-numbers same-counts same-released filled =
+        subst (λ (d : Course S ScriptedLink PlainLink). Follows p file before shut t d τ u b) (sym (fetched-course p c σ τ h.state v.numbers h.numbers r after e))
         (record {
           state = refl;
-          numbers = refl;
+          numbers = sym same-numbers;
           runs = runs_on p file shut t c.log σ τ h.runs (Event.fetch (fetch_takes 32 p σ v.numbers) v.numbers r after) (refl, e) refl refl;
-          heard = h.heard;
+          heard = h.heard ∙ sym same-heard;
           tally = same-counts;
           releases = same-released;
           filled = filled;
         })
 
-    pub fetched-none : fetched (Ok None) τ after ≡ fetches 32 p σ v.numbers → Follows p file before shut t (fetch_one 32 p c) τ (kept v v.released v.tally after v.filling) buffer
+    pub fetched-none : fetched (Ok None) τ after ≡ fetches 32 p σ v.numbers → Follows p file before shut t (fetch_one 32 p c) τ (with_numbers after v) buffer
     fetched-none e =
         let is = logged p σ τ v.numbers after room (Ok None) e (arrivals c.log) in
-        keeps (Ok None) e v.released v.tally v.filling buffer
+        keeps (Ok None) e (with_numbers after v) buffer refl refl
         (h.tally ∙ sym (ap (counted c.log) is)) (ap (λ (l : List Arrival). length (released l)) is ∙ h.releases) h.filled
 
-    pub fetched_repeat : fetched (Ok (Some Repeat)) τ after ≡ fetches 32 p σ v.numbers
-        → Follows p file before shut t (fetch_one 32 p c) τ (kept v v.released (one_repeat v.tally) after v.filling) buffer
-    fetched_repeat e =
-        let is = logged p σ τ v.numbers after room (Ok (Some Repeat)) e (arrivals c.log) in
-        keeps (Ok (Some Repeat)) e v.released (one_repeat v.tally) v.filling buffer
-        (same_tally _ _ _ _ _ _ _ _ refl (sym (add-zero v.tally.fresh)) refl (sym (add-zero v.tally.refused))
-        ∙ counted-more c.log (arrivals c.log) is.0 v.numbers (Ok Repeat) after v.tally h.tally ∙ sym (ap (counted c.log) is.1))
-        (ap (λ (l : List Arrival). length (released l)) is.1 ∙ length-append (released (arrivals c.log)) [] ∙ add-zero (length (released (arrivals c.log))) ∙ h.releases)
-        h.filled
-
-    pub fetched-refused : (why : Refusal) → fetched (Err why) τ after ≡ fetches 32 p σ v.numbers
-        → Follows p file before shut t (fetch_one 32 p c) τ (kept v v.released (one_refused v.tally) after v.filling) buffer
-    fetched-refused why e =
-        let is = logged p σ τ v.numbers after room (Err why) e (arrivals c.log) in
-        keeps (Err why) e v.released (one_refused v.tally) v.filling buffer
-        (same_tally _ _ _ _ _ _ _ _ refl (sym (add-zero v.tally.fresh)) (sym (add-zero v.tally.repeat)) refl
-        ∙ counted-more c.log (arrivals c.log) is.0 v.numbers (Err why) after v.tally h.tally ∙ sym (ap (counted c.log) is.1))
-        (ap (λ (l : List Arrival). length (released l)) is.1 ∙ length-append (released (arrivals c.log)) [] ∙ add-zero (length (released (arrivals c.log))) ∙ h.releases)
-        h.filled
+    pub fetched-some : (a : Result Answer Refusal) → fetched (some a) τ after ≡ fetches 32 p σ v.numbers → (u : Progress C) (b : List ℕ)
+        → Keeps a (with_numbers after v) u → FilledOver (spelling_of p.means.q) file (v.released + released_by a) u.filling.taken u.filling.size before b
+        → Follows p file before shut t (fetch_one 32 p c) τ u b
+    fetched-some a e u b kept filled =
+        let is = logged_call a v.numbers after (new_calls (some a)) (arrivals c.log) (logged p σ τ v.numbers after room (some a) e (arrivals c.log)) in
+        keeps (some a) e u b kept.heard kept.numbers
+        (kept.tally ∙ answered-counts a v.tally ∙ counted-more c.log (arrivals c.log) is.0 v.numbers a after v.tally h.tally ∙ sym (ap (counted c.log) is.1))
+        (ap (λ (l : List Arrival). length (released l)) is.1 ∙ released-more a (arrivals c.log) is.0 v.numbers after
+        ∙ ap (λ (k : ℕ). k + released_by a) h.releases ∙ sym kept.released)
+        (subst (λ (k : ℕ). FilledOver (spelling_of p.means.q) file k u.filling.taken u.filling.size before b) (sym kept.released) filled)
 
     module _ (n : ℕ) (e : fetched (Ok (Some (Fresh n))) τ after ≡ fetches 32 p σ v.numbers) where
-      fresh-released : length (released (new_calls (Ok (Some (Fresh n))))) ≡ v.released + n
-      fresh-released =
-          let is = logged p σ τ v.numbers after room (Ok (Some (Fresh n))) e (arrivals c.log) in
-          ap (λ (l : List Arrival). length (released l)) is.1 ∙ length-append (released (arrivals c.log)) (packets n after)
-          ∙ ap (λ (k : ℕ). length (released (arrivals c.log)) + k) (packets-count n after) ∙ ap (λ (k : ℕ). k + n) h.releases
-
-      pub fetched-fresh : (filling : Filling C) (b : List ℕ) → FilledOver (spelling_of p.means.q) file (v.released + n) filling.taken filling.size before b
-          → Follows p file before shut t (fetch_one 32 p c) τ (kept v (v.released + n) (one_fresh v.tally) after filling) b
-      fetched-fresh filling b filled =
-          let is = logged p σ τ v.numbers after room (Ok (Some (Fresh n))) e (arrivals c.log) in
-          keeps (Ok (Some (Fresh n))) e (v.released + n) (one_fresh v.tally) filling b
-          (same_tally _ _ _ _ _ _ _ _ refl refl (sym (add-zero v.tally.repeat)) (sym (add-zero v.tally.refused))
-          ∙ counted-more c.log (arrivals c.log) is.0 v.numbers (Ok (Fresh n)) after v.tally h.tally ∙ sym (ap (counted c.log) is.1))
-          fresh-released filled
-
       -- the buffer begins with the next packets of the file
-      pub fresh-begins : PartsLaws 32 p → (i : ℕ) → i < n → take 128 (drop (128 * i) after) ≡ packet_of (spelling_of p.means.q) file (v.released + i)
+      fresh-begins : PartsLaws 32 p → (i : ℕ) → i < n → take 128 (drop (128 * i) after) ≡ packet_of (spelling_of p.means.q) file (v.released + i)
       fresh-begins laws i below =
           let is = logged p σ τ v.numbers after room (Ok (Some (Fresh n))) e (arrivals c.log) in
           let r = h.runs in
@@ -134,3 +117,18 @@ module _
           ∙ sym (ap (λ (l : List (List ℕ)). get_or l (length old + i) []) in_order)
           ∙ r.stream.each (length old + i) small
           ∙ ap (λ (k : ℕ). packet_of (spelling_of p.means.q) file (k + i)) h.releases
+
+    -- the buffer begins with the next packets of the file, as many as the answer released
+    pub next_packets : PartsLaws 32 p → (a : Result Answer Refusal) → fetched (some a) τ after ≡ fetches 32 p σ v.numbers
+        → (i : ℕ) → i < released_by a → take 128 (drop (128 * i) after) ≡ packet_of (spelling_of p.means.q) file (v.released + i)
+    next_packets laws (Ok (Fresh n)) e i below = fresh-begins n e laws i below
+    next_packets laws (Ok Repeat) e i below = absurd (omega arith)
+    next_packets laws (Err why) e i below = absurd (omega arith)
+
+-- the counts stay small: a frame less waits
+pub small_kept : {C : Type 0} (n : ℕ) (a : Result Answer Refusal) (v u : Progress C) (x y : ScriptedLink) {after : List ℕ} → Keeps a (with_numbers after v) u → released_by a ≤ 32
+    → y.queue.count + 1 ≡ x.queue.count → Small n v x → Small n u y
+small_kept n a v u x y kept few fewer was = record {
+  few = omega (arith, counted_one a v.tally, was.few, ap (λ (z : Tally). z.sent + (z.fresh + (z.repeat + z.refused))) kept.tally);
+  released = omega (arith, kept.released, released_few a v.tally v.released few was.released, ap (λ (z : Tally). z.fresh) kept.tally);
+}

@@ -1,6 +1,7 @@
 -- A fetch, case by case: the call that it logs, the frame that it takes, and how much is released.
 use Rattle.std.proofs.Common.{◌≡◌, ℕ, zero, suc, ◌+◌, ◌*◌, ◌<◌, ◌≤◌, false, ltb, List, [], ◌∷◌, length, get_or, take, drop, Some, None, Ok, Err, Option, Result, sym, refl, ap, ◌∙◌, subst, le_of_suc-le-suc, not-suc-le-zero, arith, length-append, drop-drop}
 use Rattle.std.proofs.lemmas.Bool.{cond-false, le-ltb}
+use Rattle.std.specs.Result.{result_transpose}
 use Rattle.refusal.specs.declared.Refusal.{Refusal}
 use Rattle.field.specs.Field.{Means}
 use Rattle.carried.specs.Carries.{Carries}
@@ -21,7 +22,9 @@ use Rattle.receiver.specs.declared.state.State.{State as Receiver-state}
 use Rattle.transfer.specs.Log.{arriving}
 use Rattle.transfer.specs.Parts.{Parts, State}
 use Rattle.transfer.specs.Steps.{Fetched, fetched, some, fetch_takes, fetches, receives}
+use Rattle.job.specs.Counts.{released_by}
 use Rattle.delivery.specs.Rounds.{found_none}
+use Rattle.delivery.proofs.Answers.{transposed_some, transposed_none}
 
 -- the packets of a buffer, one by one
 pub packets-at : (n i : ℕ) (xs : List ℕ) → i < n → get_or (packets n xs) i [] ≡ take 128 (drop (128 * i) xs)
@@ -77,6 +80,17 @@ logged_some : (f before after : List ℕ) (r : Result Answer Refusal) (calls : L
 logged_some f before after (Ok a) calls = (f, refl)
 logged_some f before after (Err e) calls = (f, refl)
 
+-- the call that a fetch adds to the receiver's log where it took a frame
+pub logged_call : (a : Result Answer Refusal) (before after : List ℕ) (new old : List Arrival) → Logged (some a) before after new old → (f : List ℕ) × (new ≡ call f before a after ∷ old)
+logged_call (Ok x) before after new old l = l
+logged_call (Err e) before after new old l = l
+
+-- and what it released
+pub few-released : (a : Result Answer Refusal) → FewFresh (some a) → released_by a ≤ 32
+few-released (Ok (Fresh n)) h = h
+few-released (Ok Repeat) h = omega arith
+few-released (Err e) h = omega arith
+
 few-some : (r : Result Answer Refusal) → Few 32 r → FewFresh (some r)
 few-some (Ok a) h = h
 few-some (Err e) h = tt
@@ -111,8 +125,7 @@ module _
     took some-came = go (p.forward.first σ.forward) refl is-first
       where
         go : (o : Option (List ℕ)) → p.forward.first σ.forward ≡ o → fetched r τ after ≡ receives 32 p σ numbers o → (f : List ℕ) × (p.forward.first σ.forward ≡ Some f)
-        go None is e =
-            let z : ◌≡◌ {A = ℕ} 0 1 = cc (some-came, ap (λ (z : Fetched S ScriptedLink PlainLink). found_none z.answer) e) in absurd (omega arith)
+        go None is e = absurd (cc (some-came, ap (λ (z : Fetched S ScriptedLink PlainLink). found_none z.answer) e))
         go (Some f) is e = (f, is)
 
     pub logged : (calls : List Arrival) → Logged r numbers after (arriving (fetch_takes 32 p σ numbers) numbers r after calls) calls
@@ -125,7 +138,14 @@ module _
         go None = refl
         go (Some f) = logged_some f numbers after (arrived p.means p.carries 32 σ.receiver f numbers).answer calls
 
--- what a fetch answered, once it is known which answer it was
-pub answered : {S : Type 0} (p : Parts S ScriptedLink PlainLink) (σ τ : State S ScriptedLink PlainLink) (numbers after : List ℕ) (a : Option Answer)
-    → fetched (Ok a) τ after ≡ fetches 32 p σ numbers → (b : Option Answer) → a ≡ b → fetched (Ok b) τ after ≡ fetches 32 p σ numbers
-answered p σ τ numbers after a e b is = ap (λ (x : Option Answer). fetched (Ok x) τ after) (sym is) ∙ e
+-- what a fetch answered, once it is known whether it took a frame
+module _
+    {S : Type 0} (p : Parts S ScriptedLink PlainLink) (σ τ : State S ScriptedLink PlainLink) (numbers after : List ℕ)
+    (r : Result (Option Answer) Refusal) (e : fetched r τ after ≡ fetches 32 p σ numbers)
+    (o : Option (Result Answer Refusal)) (is : o ≡ result_transpose r)
+  where
+    pub answered-some : (a : Result Answer Refusal) → o ≡ Some a → fetched (some a) τ after ≡ fetches 32 p σ numbers
+    answered-some a came = ap (λ (x : Result (Option Answer) Refusal). fetched x τ after) (sym (transposed_some r a (sym is ∙ came))) ∙ e
+
+    pub answered-none : o ≡ None → fetched (Ok None) τ after ≡ fetches 32 p σ numbers
+    answered-none came = ap (λ (x : Result (Option Answer) Refusal). fetched x τ after) (sym (transposed_none r (sym is ∙ came))) ∙ e

@@ -1,6 +1,7 @@
 -- A hear, and what the program keeps of it.
-use Rattle.std.proofs.Common.{◌≡◌, ℕ, Bool, false, ◌&&◌, leb, List, ◌∷◌, Some, None, Ok, Err, Option, Result, sym, refl, ap, ◌∙◌, subst, arith}
+use Rattle.std.proofs.Common.{◌≡◌, ℕ, Bool, false, ◌&&◌, leb, List, ◌∷◌, Some, None, Ok, Err, Option, Result, sym, refl, ap, ◌∙◌, subst}
 use Rattle.std.proofs.lemmas.Bool.{cond_both}
+use Rattle.std.specs.Result.{result_transpose}
 use Rattle.refusal.specs.declared.Refusal.{Refusal}
 use Rattle.frame.specs.ReportFrame.{reading_report}
 use Rattle.link.specs.declared.plain.PlainLink.{PlainLink}
@@ -14,6 +15,7 @@ use Rattle.transfer.specs.Steps.{Called, called, some, hear_takes, heeds, hears}
 use Rattle.delivery.specs.declared.progress.Progress.{Progress}
 use Rattle.delivery.specs.Follows.{Follows}
 use Rattle.delivery.specs.Rounds.{Course, found_none, hear_one}
+use Rattle.delivery.proofs.Answers.{transposed_some, transposed_none}
 use Rattle.delivery.proofs.Courses.{heard-course, runs_on}
 
 -- an answer has the window's number
@@ -56,8 +58,7 @@ module _
     heard_took some-came = go (p.reverse.first σ.reverse) refl e
       where
         go : (o : Option (List ℕ)) → p.reverse.first σ.reverse ≡ o → called r τ ≡ heeds 32 p σ o → (f : List ℕ) × (p.reverse.first σ.reverse ≡ Some f)
-        go None is e =
-            let z : ◌≡◌ {A = ℕ} 0 1 = cc (some-came, ap (λ (z : Called (Option (ℕ × ℕ)) S ScriptedLink PlainLink). found_none z.answer) e) in absurd (omega arith)
+        go None is e = absurd (cc (some-came, ap (λ (z : Called (Option (ℕ × ℕ)) S ScriptedLink PlainLink). found_none z.answer) e))
         go (Some f) is e = (f, is)
 
 module _
@@ -90,3 +91,15 @@ module _
         let log = Event.hear (hear_takes 32 p σ) (Ok (Some numbers)) ∷ c.log in
         keeps (Ok (Some numbers)) e numbers.0
         (sym (window-heard 32 p r.source r.forward r.reverse log τ (σ, r.run, (refl, e))).0 ∙ sym (told p σ τ (Ok (Some numbers)) e))
+
+-- what a hear answered, once it is known whether it took a report
+module _
+    {S : Type 0} (p : Parts S ScriptedLink PlainLink) (σ τ : State S ScriptedLink PlainLink)
+    (r : Result (Option (ℕ × ℕ)) Refusal) (e : called r τ ≡ hears 32 p σ)
+    (o : Option (Result (ℕ × ℕ) Refusal)) (is : o ≡ result_transpose r)
+  where
+    pub told-some : (a : Result (ℕ × ℕ) Refusal) → o ≡ Some a → called (some a) τ ≡ hears 32 p σ
+    told-some a came = ap (λ (x : Result (Option (ℕ × ℕ)) Refusal). called x τ) (sym (transposed_some r a (sym is ∙ came))) ∙ e
+
+    pub told-none : o ≡ None → called (Ok None) τ ≡ hears 32 p σ
+    told-none came = ap (λ (x : Result (Option (ℕ × ℕ)) Refusal). called x τ) (sym (transposed_none r (sym is ∙ came))) ∙ e

@@ -6,8 +6,8 @@ pub mod Fetches
 pub mod Fetching
 pub mod Hearing
 pub mod Loops
-pub mod Parsing
 pub mod Queues
 pub mod Rounding
+pub mod Judging
 pub mod Sending
 pub mod Texts

@@ -20,7 +20,7 @@ popped-one q f e =
     elim (cases_lt 0 q.count) [
       | inl l ↦ let is = ap (λ (x : PlainLink). x.count) (cond-true (ltb 0 q.count) (record { frames = q.frames; first = place_of q 1; count = q.count - 1 }) q (lt-ltb 0 q.count l)) in omega (arith, is)
       | inr m ↦ let none : q.count ≡ 0 = omega arith in
-          let z : ◌≡◌ {A = ℕ} 0 1 = cc (e, ap first_of (queued-none 400 q none)) in absurd (omega arith)
+          absurd (cc (e, ap first_of (queued-none 400 q none)))
     ]
 
 pub popped-few : (q : PlainLink) → (popped q).count ≤ q.count

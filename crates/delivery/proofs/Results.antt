@@ -25,31 +25,34 @@ use Rattle.delivery.specs.Rounds.{Course, done, rounds}
 use Rattle.delivery.proofs.Rounding.{done-is, outcome-is, heard-released, used_up}
 
 -- nothing is kept yet
-pub starts : {S C : Type 0} (m : Means) (carries : Carries) (draws : Draws S) (file : List ℕ) → File file → (source : S) (script : List ℕ) (σ : State S ScriptedLink PlainLink)
-    → σ ≡ started 32 source (new_link 16 400 64 script) (empty 16 400) → (v : Progress C) (buffer : List ℕ)
-    → v.heard ≡ 0 → v.released ≡ 0 → v.tally ≡ record { sent = 0; fresh = 0; repeat = 0; refused = 0 } → v.numbers ≡ replicate 4096 0
+pub starts : {S C : Type 0} (m : Means) (carries : Carries) (draws : Draws S) (file : List ℕ) → File file → (source : S) (script : List ℕ)
+    → (forward : ScriptedLink) → forward ≡ new_link 16 400 64 script → (reverse : PlainLink) → reverse ≡ empty 16 400
+    → (σ : State S ScriptedLink PlainLink) → σ ≡ started 32 source forward reverse → (v : Progress C) (buffer : List ℕ)
+    → (v.heard ≡ 0) × (v.released ≡ 0) × (v.tally ≡ record { sent = 0; fresh = 0; repeat = 0; refused = 0 }) → v.numbers ≡ replicate 4096 0
     → FilledOver (spelling_of m.q) file 0 v.filling.taken v.filling.size buffer buffer
     → Follows (linked m carries draws) file buffer false 0 (begun (linked m carries draws) source script) σ v buffer
 unfolding begun
-starts m carries draws file is_file source script σ is v buffer heard released tally numbers filled = record {
-  state = sym is;
-  numbers = sym numbers;
-  runs = record {
-    source = source;
-    forward = new_link 16 400 64 script;
-    reverse = empty 16 400;
-    none_forth = refl;
-    none_back = refl;
-    run = is;
-    is_sealed = refl;
-    is_file = is_file;
-    stream = record { count = refl; few = omega arith; each = λ k l. absurd (not-suc-le-zero l) };
-  };
-  heard = sym heard;
-  tally = tally;
-  releases = sym released;
-  filled = subst (λ (k : ℕ). FilledOver (spelling_of m.q) file k v.filling.taken v.filling.size buffer buffer) (sym released) filled;
-}
+starts m carries draws file is_file source script forward forth reverse back σ began v buffer counts numbers filled =
+    let is = began ∙ ap (λ (x : ScriptedLink). started 32 source x reverse) forth ∙ ap (λ (x : PlainLink). started 32 source (new_link 16 400 64 script) x) back in
+    record {
+      state = sym is;
+      numbers = sym numbers;
+      runs = record {
+        source = source;
+        forward = new_link 16 400 64 script;
+        reverse = empty 16 400;
+        none_forth = refl;
+        none_back = refl;
+        run = is;
+        is_sealed = refl;
+        is_file = is_file;
+        stream = record { count = refl; few = omega arith; each = λ k l. absurd (not-suc-le-zero l) };
+      };
+      heard = sym counts.0;
+      tally = counts.2;
+      releases = sym counts.1;
+      filled = subst (λ (k : ℕ). FilledOver (spelling_of m.q) file k v.filling.taken v.filling.size buffer buffer) (sym counts.1) filled;
+    }
 
 module _
     {S C : Type 0} (p : Parts S ScriptedLink PlainLink) (source : S) (script file before : List ℕ) (σ : State S ScriptedLink PlainLink) (v : Progress C) (buffer : List ℕ)

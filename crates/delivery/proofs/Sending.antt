@@ -11,7 +11,7 @@ use Rattle.transfer.specs.Log.{Event, sendings}
 use Rattle.transfer.specs.Parts.{Parts, State}
 use Rattle.transfer.specs.Steps.{Called, called, coded, sends}
 use Rattle.delivery.specs.declared.progress.Progress.{Progress}
-use Rattle.delivery.specs.declared.tally.Tally.{Tally}
+use Rattle.job.specs.declared.tally.Tally.{Tally}
 use Rattle.delivery.specs.Follows.{Follows}
 use Rattle.delivery.specs.Outcome.{tally_of, linked}
 use Rattle.delivery.specs.Rounds.{Course, send_one}

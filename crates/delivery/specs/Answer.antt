@@ -1,22 +1,24 @@
 -- What the program writes for what it reads.
-use Rattle.std.specs.Prelude.{ℕ, List, ◌++◌, Ok, Err, Result}
+use Rattle.std.specs.Prelude.{ℕ, List, ◌++◌, codes, Ok, Err, Result}
 use Rattle.refusal.specs.declared.Refusal.{Refusal}
 use Rattle.refusal.specs.Numbers.{numbered}
 use Rattle.delivery.specs.declared.outcome.Ending.{Ending}
 use Rattle.delivery.specs.declared.outcome.Ending.TheVariants.{Whole, Spent}
 use Rattle.delivery.specs.declared.outcome.Outcome.{Outcome}
-use Rattle.delivery.specs.Line.{Asked, parsed}
+use Rattle.job.specs.Line.{Asked, parsed}
 use Rattle.delivery.specs.Outcome.{outcome_of, log_of}
-use Rattle.delivery.specs.Output.{refused_text, counts_text, whole_text, spent_text}
+use Rattle.job.specs.Counts.{counts_text}
+use Rattle.job.specs.Output.{refused_text, file_text}
+use Rattle.delivery.specs.Output.{spent_text}
 
 -- an ending: whole, the file that was handed in
 abbrev pub ending_text : List ℕ → Ending → List ℕ
-ending_text file (Whole n) = whole_text file
+ending_text file (Whole n) = file_text file
 ending_text file (Spent released) = spent_text released
 
 -- an outcome: the counts, then the ending
 abbrev pub outcome_text : List ℕ → Outcome → List ℕ
-outcome_text file o = counts_text o.tally ++ ending_text file o.ending
+outcome_text file o = counts_text (codes "sent") o.tally ++ ending_text file o.ending
 
 -- a job writes the outcome of its rounds, and a refused one its number
 abbrev pub asked_text : Result Asked Refusal → List ℕ

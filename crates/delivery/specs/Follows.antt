@@ -6,10 +6,14 @@ use Rattle.link.specs.declared.scripted.ScriptedLink.{ScriptedLink}
 use Rattle.file.specs.Filled.{File, FilledOver}
 use Rattle.file.specs.Packets.{packets, packet_of}
 use Rattle.file.specs.Spelling.{spelling_of}
+use Rattle.job.specs.Counts.{answered_with, released_by}
 use Rattle.receiver.specs.Log.{released}
+use Rattle.receiver.specs.declared.state.Answer.{Answer}
 use Rattle.transfer.specs.Log.{Event, arrivals, admitted, heard}
 use Rattle.transfer.specs.Parts.{Parts, State}
 use Rattle.transfer.specs.Run.{Run}
+use Rattle.transfer.specs.Calls.{state_of}
+use Rattle.delivery.specs.declared.exchange.Delivery.{Delivery}
 use Rattle.delivery.specs.declared.progress.Progress.{Progress}
 use Rattle.delivery.specs.Outcome.{tally_of}
 use Rattle.delivery.specs.Rounds.{Course, sealed}
@@ -44,17 +48,25 @@ pub record Follows {S C : Type 0} (p : Parts S ScriptedLink PlainLink) (file bef
   pub filled : FilledOver (spelling_of p.means.q) file v.released v.filling.taken v.filling.size before buffer
 
 -- whatever course has led here, of any file, the next step of it leads there
-unfoldable pub Leads : {S C : Type 0} → Parts S ScriptedLink PlainLink → (Course S ScriptedLink PlainLink → Course S ScriptedLink PlainLink)
-    → State S ScriptedLink PlainLink → Progress C → List ℕ → State S ScriptedLink PlainLink → Progress C → List ℕ → Type 0
-Leads {S} p step σ v buffer τ u after =
-    (file before : List ℕ) (shut : Bool) (t : ℕ) (c : Course S ScriptedLink PlainLink) → Follows p file before shut t c σ v buffer → Follows p file before shut t (step c) τ u after
+unfoldable pub Leads : {S C P : Type 0} → Parts S ScriptedLink PlainLink → (ℕ → Parts S ScriptedLink PlainLink → Course S ScriptedLink PlainLink → Course S ScriptedLink PlainLink)
+    → Delivery P C S → List ℕ → Delivery P C S → List ℕ → Type 0
+Leads {S} p step x buffer y after =
+    (file before : List ℕ) (shut : Bool) (t : ℕ) (c : Course S ScriptedLink PlainLink) → Follows p file before shut t c (state_of x.transfer) x.progress buffer
+    → Follows p file before shut t (step 32 p c) (state_of y.transfer) y.progress after
 
 -- the same of a step that could have been refused, and was not
-unfoldable pub LeadsOn : {S C : Type 0} → Parts S ScriptedLink PlainLink → (Course S ScriptedLink PlainLink → Course S ScriptedLink PlainLink)
-    → Result (Unit {0}) Refusal → State S ScriptedLink PlainLink → Progress C → List ℕ → State S ScriptedLink PlainLink → Progress C → List ℕ → Type 0
-LeadsOn {S} p step r σ v buffer τ u after =
-    (file before : List ℕ) (shut : Bool) (t : ℕ) (c : Course S ScriptedLink PlainLink) → Follows p file before shut t c σ v buffer
-    → (r ≡ Ok tt) × Follows p file before shut t (step c) τ u after
+unfoldable pub LeadsOn : {S C P : Type 0} → Parts S ScriptedLink PlainLink → (ℕ → Parts S ScriptedLink PlainLink → Course S ScriptedLink PlainLink → Course S ScriptedLink PlainLink)
+    → Result (Unit {0}) Refusal → Delivery P C S → List ℕ → Delivery P C S → List ℕ → Type 0
+LeadsOn {S} p step r x buffer y after =
+    (file before : List ℕ) (shut : Bool) (t : ℕ) (c : Course S ScriptedLink PlainLink) → Follows p file before shut t c (state_of x.transfer) x.progress buffer
+    → (r ≡ Ok tt) × Follows p file before shut t (step 32 p c) (state_of y.transfer) y.progress after
+
+-- an answer of a fetch was kept: it is counted, and all but the record is as before
+pub record Keeps {C : Type 0} (answer : Result Answer Refusal) (v u : Progress C) : Type 0 where
+  pub heard : u.heard ≡ v.heard
+  pub numbers : u.numbers ≡ v.numbers
+  pub tally : u.tally ≡ answered_with answer v.tally
+  pub released : u.released ≡ v.released + released_by answer
 
 -- the counts are small, and stay so as frames that wait are fetched
 pub record Small {C : Type 0} (n : ℕ) (v : Progress C) (x : ScriptedLink) : Type 0 where

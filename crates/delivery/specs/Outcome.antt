@@ -27,14 +27,14 @@ use Rattle.receiver.specs.declared.state.Answer.{Answer}
 use Rattle.receiver.specs.declared.state.Answer.TheVariants.{Fresh, Repeat}
 use Rattle.transfer.specs.Log.{Event, arrivals, sendings}
 use Rattle.transfer.specs.Parts.{Parts, parts}
-use Rattle.delivery.specs.declared.line.FieldKind.{FieldKind}
-use Rattle.delivery.specs.declared.line.FieldKind.TheVariants.{Bits, Bytes, Residues}
-use Rattle.delivery.specs.declared.line.SourceKind.{SourceKind}
-use Rattle.delivery.specs.declared.line.SourceKind.TheVariants.{Plain, Woven}
+use Rattle.job.specs.declared.line.FieldKind.{FieldKind}
+use Rattle.job.specs.declared.line.FieldKind.TheVariants.{Bits, Bytes, Residues}
+use Rattle.job.specs.declared.line.SourceKind.{SourceKind}
+use Rattle.job.specs.declared.line.SourceKind.TheVariants.{Plain, Woven}
 use Rattle.delivery.specs.declared.outcome.Ending.{Ending}
 use Rattle.delivery.specs.declared.outcome.Ending.TheVariants.{Whole, Spent}
 use Rattle.delivery.specs.declared.outcome.Outcome.{Outcome}
-use Rattle.delivery.specs.declared.tally.Tally.{Tally}
+use Rattle.job.specs.declared.tally.Tally.{Tally}
 use Rattle.delivery.specs.Rounds.{Course, opening, done, rounds, UsedUp}
 
 -- a repeat counts

@@ -1,5 +1,5 @@
 //! What a job comes to.
-use super::tally::Tally;
+use job::Tally;
 
 /// How the rounds ended.
 #[derive(Clone, Copy)]

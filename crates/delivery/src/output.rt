@@ -1,21 +1,12 @@
 //! What the program writes of a job.
-ghost use Rattle.std.specs.Prelude.{◌≡◌, ◌++◌, length, IfOk};
-ghost use Rattle.refusal.specs.Numbers.{numbered};
-ghost use Rattle.delivery.specs.Output.{refused_text, counts_text, whole_text, spent_text, shown_text, Within};
+ghost use Rattle.std.specs.Prelude.{◌≡◌, ◌++◌, length, codes, IfOk};
+ghost use Rattle.job.specs.Counts.{counts_text};
+ghost use Rattle.job.specs.Output.{file_text};
+ghost use Rattle.delivery.specs.Output.{spent_text, shown_text, Within};
 
 use super::outcome::{Ending, Outcome};
-use super::tally::Tally;
-use refusal::Refusal;
+use job::Tally;
 use std::alloc::{AllocError, Global};
-
-/// A refused job is answered by its number alone.
-pub(crate) fn refused(heap: Global, refusal: Refusal) -> Result<Vec<u8>, AllocError>
-    ensures { IfOk result (λ v. v.items ≡ refused_text (numbered refusal)) }
-{
-    let number = refusal.number();
-    let text = format!(in heap; "job {number}\n")?;
-    Ok(text.into_bytes())
-}
 
 /// The counts, and then the length and the file, which begins the buffer, or how many packets were released.
 pub(crate) fn outcome(heap: Global, outcome: Outcome, buffer: &[u8]) -> Result<Vec<u8>, AllocError>
@@ -28,40 +19,22 @@ pub(crate) fn outcome(heap: Global, outcome: Outcome, buffer: &[u8]) -> Result<V
     }
 }
 
-// The four counts, a line each.
-fn counts(heap: Global, tally: Tally) -> Result<Vec<u8>, AllocError>
-    ensures { IfOk result (λ v. v.items ≡ counts_text tally) }
-{
-    let Tally {
-        sent,
-        fresh,
-        repeat,
-        refused,
-    } = tally;
-    let text = format!(in heap;
-        "sent {sent}\nfresh {fresh}\nrepeat {repeat}\nrefused {refused}\n"
-    )?;
-    Ok(text.into_bytes())
-}
-
 // The counts, the file's length, and the file itself.
 fn whole(heap: Global, tally: Tally, file: &[u8]) -> Result<Vec<u8>, AllocError>
-    ensures { IfOk result (λ v. v.items ≡ counts_text tally ++ whole_text file.now) }
+    ensures { IfOk result (λ v. v.items ≡ counts_text (codes "sent") tally ++ file_text file.now) }
 {
-    let mut bytes = counts(heap, tally)?;
+    let counts = tally.lines(heap, "sent")?;
     let length = file.len();
-    let text = format!(in heap; "whole {length}\n")?;
-    bytes.extend_from_slice(text.as_bytes())?;
+    let mut bytes = format!(in heap; "{counts}whole {length}\n")?.into_bytes();
     bytes.extend_from_slice(file)?;
     Ok(bytes)
 }
 
 // The counts, and how many packets were released.
 fn spent(heap: Global, tally: Tally, released: u32) -> Result<Vec<u8>, AllocError>
-    ensures { IfOk result (λ v. v.items ≡ counts_text tally ++ spent_text released) }
+    ensures { IfOk result (λ v. v.items ≡ counts_text (codes "sent") tally ++ spent_text released) }
 {
-    let mut bytes = counts(heap, tally)?;
-    let text = format!(in heap; "spent {released}\n")?;
-    bytes.extend_from_slice(text.as_bytes())?;
-    Ok(bytes)
+    let counts = tally.lines(heap, "sent")?;
+    let text = format!(in heap; "{counts}spent {released}\n")?;
+    Ok(text.into_bytes())
 }

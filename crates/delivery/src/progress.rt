@@ -1,14 +1,17 @@
 //! What the program keeps of a transfer's answers.
-ghost use Rattle.std.specs.Prelude.{◌≡◌, ℕ, ◌≤◌, List, length, replicate, Ok};
-ghost use Rattle.file.specs.Filled.{FilledOver};
+ghost use Rattle.std.specs.Prelude.{◌≡◌, ℕ, ◌+◌, ◌*◌, ◌^◌, ◌<◌, ◌≤◌, List, length, take, replicate, Ok};
+ghost use Rattle.file.specs.Filled.{FilledOver, FillsAllOver};
 ghost use Rattle.file.specs.Packets.{packets};
 ghost use Rattle.file.specs.Spelling.{spelling_of};
+ghost use Rattle.job.specs.Counts.{released_by};
+ghost use Rattle.delivery.specs.Follows.{Keeps};
 ghost use Rattle.delivery.specs.Phases.{outcome_from};
 
 use super::outcome::{Ending, Outcome};
-use super::tally::Tally;
 use field::Field;
-use file::Filling;
+use file::{FILE_MOST, Filling};
+use job::Tally;
+use receiver::Answer;
 use refusal::Refusal;
 
 /// The greatest released number heard, the counts, the buffer of the packets released last, and the record that all
@@ -31,10 +34,28 @@ impl<C: Field> Progress<C> {
         Progress {
             heard: 0,
             released: 0,
-            tally: Tally::new(),
+            tally: Tally::default(),
             numbers: [0; 4096],
             filling: Filling::new(),
         }
+    }
+
+    /// Keeps the answer of a fetch: counts it, and hands the packets that it released to the record.
+    pub(crate) fn keep(
+        &mut self,
+        answer: Result<Answer, Refusal>,
+        buffer: &mut [u8; FILE_MOST],
+    ) -> Result<(), Refusal>
+        requires few { released_by answer ≤ 32 }
+        requires room { self.old.tally.fresh + (self.old.tally.repeat + self.old.tally.refused) < 2 ^ 26 }
+        requires released { self.old.released ≤ 32 * self.old.tally.fresh }
+        ensures keeps { Keeps answer self.old self.new }
+        ensures fills { FillsAllOver (spelling_of C.Field.means.q) (take (128 * released_by answer) self.old.numbers) self.old.filling.taken self.old.filling.size buffer.old (result, self.new.filling.taken, self.new.filling.size, buffer.new) }
+    {
+        let count = self.tally.count(answer);
+        self.released += count;
+        let packets = &self.numbers[..128 * count as usize];
+        self.filling.add_all(packets, buffer)
     }
 
     /// What it comes to once the rounds are used up.
@@ -54,16 +75,10 @@ impl<C: Field> Progress<C> {
         if self.heard != count {
             return Ok(self.spent());
         }
-        let tally = self.tally;
-        match self.filling.finish() {
-            Ok(whole) => Ok(Outcome {
-                tally,
-                ending: Ending::Whole(whole.length()),
-            }),
-            Err(back) => {
-                let (_, refusal) = back;
-                Err(refusal)
-            }
-        }
+        let whole = self.filling.finish().map_err(|(_, refusal)| refusal)?;
+        Ok(Outcome {
+            tally: self.tally,
+            ending: Ending::Whole(whole.length()),
+        })
     }
 }

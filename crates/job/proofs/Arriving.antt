@@ -20,7 +20,7 @@ use Rattle.receiver.specs.Buffers.{over}
 use Rattle.receiver.specs.Reach.{reach}
 use Rattle.receiver.specs.Release.{ready, advanced, release_one, releasing}
 use Rattle.receiver.specs.declared.state.Answer.{Answer}
-use Rattle.receiver.specs.declared.state.Answer.TheVariants.{Fresh, Repeat}
+use Rattle.receiver.specs.declared.state.Answer.TheVariants.{Fresh}
 use Rattle.receiver.specs.declared.state.State.{State}
 use Rattle.job.specs.Crossing.{alone, Waits}
 use Rattle.job.proofs.Alone.{then_still, none-at, none-set, alone_row, absorbed-alone, solved-alone}
@@ -130,9 +130,3 @@ crossed w some m laws k few p codes carries bytes numbers room reads b waits ans
       waits = record { count = ap (λ (o : Outcome). o.state.released) is; none = ap (λ (o : Outcome). o.state.table) is };
       released = ap (λ (o : Outcome). o.numbers) is;
     }
-
-pub not_repeat : ◌≡◌ {A = Result Answer Refusal} (Ok Repeat) (Ok (Fresh 1)) → ⊥
-not_repeat e = let z : ◌≡◌ {A = ℕ} 0 1 = cc in omega arith
-
-pub not_refused : (why : Refusal) → ◌≡◌ {A = Result Answer Refusal} (Err why) (Ok (Fresh 1)) → ⊥
-not_refused why e = let z : ◌≡◌ {A = ℕ} 0 1 = cc in omega arith

@@ -1,5 +1,5 @@
 -- A packet in a frame of its own.
-use Rattle.std.proofs.Common.{◌≡◌, ℕ, zero, suc, ◌*◌, ◌<◌, ◌≤◌, cond, ltb, List, [], ◌++◌, length, get_or, take, drop, set, replicate, IfOk, Ok, Err, Result, sym, refl, ap, ◌∙◌, inl, inr, append-nil, arith, lit≤, MatchResult}
+use Rattle.std.proofs.Common.{◌≡◌, ℕ, zero, suc, ◌+◌, ◌*◌, ◌<◌, ◌≤◌, cond, ltb, List, [], ◌++◌, length, get_or, take, drop, set, replicate, IfOk, Ok, Err, Result, is_ok, sym, refl, ap, ◌∙◌, subst, inl, inr, append-nil, arith, lit≤, MatchResult}
 use lib.Seq.{take-append_seam}
 use Rattle.std.proofs.ByRecursion.{All-get_or}
 use Rattle.std.proofs.lemmas.List.{get_or-replicate, get_or_past}
@@ -9,6 +9,11 @@ use Rattle.refusal.specs.declared.Refusal.{Refusal}
 use Rattle.refusal.specs.declared.Refusal.TheVariants.{LongFile}
 use Rattle.frame.specs.Proper.{Proper}
 use Rattle.receiver.specs.Buffers.{over}
+use Rattle.file.specs.Filled.{File, Filled, FillsAll, Took}
+use Rattle.file.specs.Filling.{Outcome}
+use Rattle.file.specs.Packets.{packet_of}
+use Rattle.file.specs.Spelling.{spelling_of}
+use Rattle.file.proofs.Each.{fills_first}
 
 -- all slots but the first are 0
 none_past : (k : ℕ) → 1 ≤ k → ◌≡◌ {A = ℕ} (get_or (set (replicate 32 0) 0 1) k 0) 0
@@ -23,14 +28,10 @@ slot-code : (q k : ℕ) → 2 ≤ q → get_or (set (replicate 32 0) 0 1) k 0 < 
 slot-code q zero h = h
 slot-code q (suc k) h = omega (arith, none_past (suc k) (omega arith))
 
--- an answer is not both
-pub not_both : {A B : Type 0} (r : Result A B) (a : A) (b : B) → r ≡ Ok a → r ≡ Err b → ⊥
-not_both r a b ok err = let z : ◌≡◌ {A = ℕ} 0 1 = cc in omega arith
-
 -- an answer that is known, with what holds of it
 pub known_ok : {B : Type 0} (P : ℕ → Type 0) (r : Result ℕ B) (n most : ℕ) → r ≡ Ok n → n ≤ most → IfOk r P → MatchResult r (λ x. (x ≤ most) × P x) (λ _. ⊥)
 known_ok P (Ok x) n most e h p = (let is : x ≡ n = cc in omega arith, p)
-known_ok P (Err b) n most e h p = absurd (not_both (Err b) n b e refl)
+known_ok P (Err b) n most e h p = cc
 
 -- the contents of the frame are in order
 pub alone-proper : (q number : ℕ) (symbols : List ℕ) → 2 ≤ q → number < 65536 → length symbols ≡ 128 → AllBelowBase q symbols
@@ -47,7 +48,7 @@ alone-proper q number symbols two few long codes = record {
 }
 
 -- the only packet released stands at the start of the number buffer
-pub first-packet : (p numbers : List ℕ) → length p ≡ 128 → (i released : ℕ) → released ≡ 1 → i < released
+first-packet : (p numbers : List ℕ) → length p ≡ 128 → (i released : ℕ) → released ≡ 1 → i < released
     → take 128 (drop (128 * i) (over numbers (p ++ []))) ≡ p
 first-packet p numbers long i released one few =
     let none : 128 * i ≡ 0 = omega arith in
@@ -61,3 +62,21 @@ pub packet-is : (size : ℕ) (p q : List ℕ) → size ≤ 16000 → ◌≡◌ {
 packet-is size p q h e =
     let short : ◌≡◌ {A = Result (List ℕ) Refusal} (cond (ltb 16000 size) (Err LongFile) (Ok q)) (Ok q) = cond-false (ltb 16000 size) _ _ (le-ltb 16000 size h) in
     cc
+
+-- what finishing answered, by what is left of it once its refusal alone is kept
+pub kept_ok : {T E F : Type 0} (before : Result T E) (r : Result T F) (P : E → Type 0) (x : T) → MatchResult before (λ y. r ≡ Ok y) P → is_ok r ≡ is_ok before
+    → r ≡ Ok x → before ≡ Ok x
+kept_ok (Ok y) r P x m e was = cc
+kept_ok (Err y) r P x m e was = cc (ap is_ok was)
+
+-- the packet that crossed alone is taken
+pub taken_alone : (q : ℕ) (file p numbers now buffer : List ℕ) (k taken size released : ℕ) (after : Outcome) → length p ≡ 128 → p ≡ packet_of (spelling_of q) file k
+    → now ≡ over numbers (p ++ []) → released ≡ 1 → 128 * released ≤ length now → FillsAll (spelling_of q) (take (128 * released) now) taken size buffer after
+    → File file → 16000 ≤ length buffer → Filled (spelling_of q) file k taken size buffer → Took (spelling_of q) file (k + 1) after
+taken_alone q file p numbers now buffer k taken size released after long is came one fits all carries enough filled =
+    subst (λ (n : ℕ). Took (spelling_of q) file (k + n) after) one
+    (fills_first now (take (128 * released) now) released fits refl (spelling_of q) file k taken size buffer after
+    (λ i few.
+    ap (λ (xs : List ℕ). take 128 (drop (128 * i) xs)) came ∙ first-packet p numbers long i released one few
+    ∙ is ∙ ap (packet_of (spelling_of q) file) (let first : k ≡ k + i = omega arith in first))
+    all carries enough filled)

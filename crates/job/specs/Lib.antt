@@ -1,4 +1,5 @@
 pub mod Answer
+pub mod Counts
 pub mod Crossing
 pub mod Line
 pub mod Output

@@ -1,21 +1,17 @@
 -- The job line, and which refusal comes for which bytes.
-use Rattle.std.specs.Prelude.{ℕ, Bool, true, cond, ◌&&◌, ◌||◌, List, [], ◌∷◌, length, Some, None, Ok, Err, Option, Result, ◌==◌, nat_le, nat_lt}
+use Rattle.std.specs.Prelude.{◌≡◌, ℕ, ◌+◌, cond, List, [], ◌∷◌, length, take, drop, Some, None, Ok, Err, Option, Result, ◌==◌, nat_le, position}
+use Rattle.std.specs.Option.{option_map, ok_or}
 use Rattle.refusal.specs.declared.Refusal.{Refusal}
 use Rattle.refusal.specs.declared.Refusal.TheVariants.{BadLine, BadScript, LongFile}
+use Rattle.link.specs.Script.{proper}
 use Rattle.job.specs.declared.line.FieldKind.{FieldKind}
 use Rattle.job.specs.declared.line.FieldKind.TheVariants.{Bits, Bytes, Residues}
 use Rattle.job.specs.declared.line.SourceKind.{SourceKind}
 use Rattle.job.specs.declared.line.SourceKind.TheVariants.{Plain, Woven}
 
--- the first part of a pair, with one byte more in front
-abbrev pub after : ℕ → Option (List ℕ × List ℕ) → Option (List ℕ × List ℕ)
-after b None = None
-after b (Some parts) = Some (b ∷ parts.0, parts.1)
-
 -- the bytes before the first newline, 10, and those after it
 abbrev pub split : List ℕ → Option (List ℕ × List ℕ)
-split [] = None
-split (b ∷ bs) = cond (b == 10) (Some ([], bs)) (after b (split bs))
+split bs = option_map (λ i. (take i bs, drop (i + 1) bs)) (position (λ b. b == 10) bs)
 
 -- the digits 1, 2 and 3 ask for bits, bytes and residues
 abbrev pub field_kind : ℕ → Option FieldKind
@@ -25,18 +21,12 @@ field_kind d = cond (d == 49) (Some Bits) (cond (d == 50) (Some Bytes) (cond (d 
 abbrev pub source_kind : ℕ → Option SourceKind
 source_kind d = cond (d == 49) (Some Plain) (cond (d == 50) (Some Woven) None)
 
--- the letters k, l, d and h
-abbrev pub letter : ℕ → Bool
-letter b = b == 107 || (b == 108 || (b == 100 || b == 104))
+-- what a digit is read as
+abbrev pub FieldRead : ℕ → Result FieldKind Refusal → Type 0
+FieldRead d r = r ≡ ok_or (field_kind d) BadLine
 
--- every byte is a letter
-abbrev pub letters : List ℕ → Bool
-letters [] = true
-letters (b ∷ bs) = letter b && letters bs
-
--- a script is 1 to 64 letters
-abbrev pub scripted : List ℕ → Bool
-scripted bs = nat_lt 0 (length bs) && (nat_le (length bs) 64 && letters bs)
+abbrev pub SourceRead : ℕ → Result SourceKind Refusal → Type 0
+SourceRead d r = r ≡ ok_or (source_kind d) BadLine
 
 -- a job, as its line asks for it
 pub record Asked : Type 0 where
@@ -48,7 +38,7 @@ pub record Asked : Type 0 where
 -- the script is checked before the file's length
 abbrev pub checked : FieldKind → SourceKind → List ℕ → List ℕ → Result Asked Refusal
 checked f s script file =
-    cond (scripted script)
+    cond (proper 64 script)
     (cond (nat_le (length file) 16000) (Ok (record { field = f; source = s; script = script; file = file })) (Err LongFile))
     (Err BadScript)
 

@@ -1,4 +1,4 @@
-//! A job: its line and file, how the file is carried, and what the program writes.
+//! A job: its line and file, how the file is carried alone, and what the program writes.
 #![tactic(auto)]
 
 mod carry;
@@ -7,5 +7,7 @@ mod output;
 mod program;
 mod tally;
 
-pub use line::{FieldKind, Job, SourceKind, parse};
+pub use line::{FieldKind, Job, ShortFile, SourceKind, parse};
+pub use output::refused;
 pub use program::answer;
+pub use tally::Tally;

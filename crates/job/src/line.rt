@@ -1,7 +1,11 @@
 //! The job line and the file behind it.
-ghost use Rattle.std.specs.Prelude.{◌≡◌, ℕ, Bool, List, Some, None, Ok, Err, MatchOption, MatchResult};
-ghost use Rattle.job.specs.Line.{split, field_kind, source_kind, letter, letters, scripted, parsed};
+ghost use Rattle.std.specs.Prelude.{◌≡◌, ◌<◌, length, Some, None, Ok, Err, MatchOption, MatchResult, ◌==◌, position};
+ghost use Rattle.refusal.specs.declared.Refusal.TheVariants.{LongFile};
+ghost use Rattle.file.specs.Filled.{File};
+ghost use Rattle.job.specs.Line.{split, FieldRead, SourceRead, parsed};
 
+use file::FILE_MOST;
+use link::ScriptedLink;
 use refusal::Refusal;
 
 /// The field a job asks for, numbered as the kinds of data frames are.
@@ -12,11 +16,40 @@ pub enum FieldKind {
     Residues,
 }
 
+impl TryFrom<u8> for FieldKind {
+    type Error = Refusal;
+
+    ghost try_from_gives = { FieldRead };
+
+    fn try_from(digit: u8) -> Result<FieldKind, Refusal> {
+        match digit {
+            b'1' => Ok(FieldKind::Bits),
+            b'2' => Ok(FieldKind::Bytes),
+            b'3' => Ok(FieldKind::Residues),
+            _ => Err(Refusal::BadLine),
+        }
+    }
+}
+
 /// The source of coefficients a job asks for.
 #[derive(Clone, Copy, PartialEq, Eq, Debug)]
 pub enum SourceKind {
     Plain,
     Woven,
+}
+
+impl TryFrom<u8> for SourceKind {
+    type Error = Refusal;
+
+    ghost try_from_gives = { SourceRead };
+
+    fn try_from(digit: u8) -> Result<SourceKind, Refusal> {
+        match digit {
+            b'1' => Ok(SourceKind::Plain),
+            b'2' => Ok(SourceKind::Woven),
+            _ => Err(Refusal::BadLine),
+        }
+    }
 }
 
 /// What is to be carried, and over what.
@@ -35,24 +68,14 @@ pub fn parse(input: &[u8]) -> Result<Job<'_>, Refusal>
     let Some((line, file)) = split_line(input) else {
         return Err(Refusal::BadLine);
     };
-    let [field, source, space, script @ ..] = line else {
+    let [field, source, b' ', script @ ..] = line else {
         return Err(Refusal::BadLine);
     };
-    if *space != b' ' {
-        return Err(Refusal::BadLine);
-    }
-    let Some(field) = read_field(*field) else {
-        return Err(Refusal::BadLine);
-    };
-    let Some(source) = read_source(*source) else {
-        return Err(Refusal::BadLine);
-    };
-    if !is_script(script) {
-        return Err(Refusal::BadScript);
-    }
-    if file.len() > 16_000 {
-        return Err(Refusal::LongFile);
-    }
+    let field = FieldKind::try_from(*field)?;
+    let source = SourceKind::try_from(*source)?;
+    // A link that opens with the script says that it is one.
+    ScriptedLink::new(script)?;
+    let file = ShortFile::new(file)?.bytes;
     Ok(Job {
         field,
         source,
@@ -61,62 +84,36 @@ pub fn parse(input: &[u8]) -> Result<Job<'_>, Refusal>
     })
 }
 
+/// The bytes of a file that is short enough to be carried.
+#[derive(Clone, Copy)]
+pub struct ShortFile<'a> {
+    pub bytes: &'a [u8],
+    ghost is_file: { File bytes.now },
+}
+
+impl<'a> ShortFile<'a> {
+    /// Refuses a file of over 16,000 bytes.
+    pub fn new(bytes: &'a [u8]) -> Result<ShortFile<'a>, Refusal>
+        ensures { MatchResult result (λ file. file.bytes.now ≡ bytes.now) (λ refusal. (16000 < length bytes.now) × (refusal ≡ LongFile)) }
+    {
+        if bytes.len() > FILE_MOST {
+            return Err(Refusal::LongFile);
+        }
+        Ok(ShortFile { bytes })
+    }
+}
+
 // The bytes before the first newline, and those after it.
 fn split_line(input: &[u8]) -> Option<(&[u8], &[u8])>
     ensures { MatchOption result (split input.now ≡ None) (λ parts. split input.now ≡ Some (parts.0.now, parts.1.now)) }
 {
-    for i in 0..input.len() {
-        if input[i] == b'\n' {
-            return Some((&input[0..i], &input[i + 1..]));
-        }
-    }
-    None
+    let end = find_newline(input)?;
+    Some((&input[..end], &input[end + 1..]))
 }
 
-fn read_field(digit: u8) -> Option<FieldKind>
-    ensures { result ≡ field_kind digit }
+// The place of the first newline.
+fn find_newline(input: &[u8]) -> Option<usize>
+    ensures { result ≡ position (λ b. b == 10) input.now }
 {
-    match digit {
-        b'1' => Some(FieldKind::Bits),
-        b'2' => Some(FieldKind::Bytes),
-        b'3' => Some(FieldKind::Residues),
-        _ => None,
-    }
-}
-
-fn read_source(digit: u8) -> Option<SourceKind>
-    ensures { result ≡ source_kind digit }
-{
-    match digit {
-        b'1' => Some(SourceKind::Plain),
-        b'2' => Some(SourceKind::Woven),
-        _ => None,
-    }
-}
-
-// A script is 1 to 64 of the letters k, l, d and h.
-fn is_script(script: &[u8]) -> bool
-    ensures { result ≡ scripted script.now }
-{
-    !script.is_empty() && script.len() <= 64 && all_letters(script)
-}
-
-fn all_letters(script: &[u8]) -> bool
-    ensures { result ≡ letters script.now }
-{
-    for letter in script {
-        if !is_letter(*letter) {
-            return false;
-        }
-    }
-    true
-}
-
-fn is_letter(byte: u8) -> bool
-    ensures { result ≡ letter byte }
-{
-    match char::from(byte) {
-        'k' | 'l' | 'd' | 'h' => true,
-        _ => false,
-    }
+    input.iter().position(|byte| *byte == b'\n')
 }

@@ -8,7 +8,7 @@ use refusal::Refusal;
 use std::alloc::{AllocError, Global};
 
 /// A refused job is answered by its number alone.
-pub(crate) fn refused(heap: Global, refusal: Refusal) -> Result<Vec<u8>, AllocError>
+pub fn refused(heap: Global, refusal: Refusal) -> Result<Vec<u8>, AllocError>
     ensures { IfOk result (λ v. v.items ≡ refused_text (numbered refusal)) }
 {
     let number = refusal.number();
@@ -25,17 +25,10 @@ pub(crate) fn whole(
 ) -> Result<Vec<u8>, AllocError>
     ensures { IfOk result (λ v. v.items ≡ whole_text packets tally file.now) }
 {
-    let Tally {
-        frames,
-        fresh,
-        repeat,
-        refused,
-    } = tally;
+    let counts = tally.lines(heap, "frames")?;
     let length = file.len();
-    let counts = format!(in heap; "packets {packets}\nframes {frames}\nfresh {fresh}\n")?;
-    let answers = format!(in heap; "repeat {repeat}\nrefused {refused}\nwhole {length}\n")?;
-    let mut bytes = counts.into_bytes();
-    bytes.extend_from_slice(answers.as_bytes())?;
+    let text = format!(in heap; "packets {packets}\n{counts}whole {length}\n")?;
+    let mut bytes = text.into_bytes();
     bytes.extend_from_slice(file)?;
     Ok(bytes)
 }

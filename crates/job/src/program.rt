@@ -1,53 +1,55 @@
 //! The program's answer to its input.
-ghost use Rattle.std.specs.Prelude.{◌≡◌, ◌≤◌, length, IfOk};
-ghost use Rattle.job.specs.Answer.{answered, carried_text, copied_text};
+ghost use Rattle.std.specs.Prelude.{◌≡◌, IfOk, MatchResult};
+ghost use Rattle.refusal.specs.Numbers.{numbered};
+ghost use Rattle.job.specs.Answer.{answered, copied_text};
+ghost use Rattle.job.specs.Output.{refused_text, whole_text};
 
 use super::carry::carry;
-use super::line::{FieldKind, parse};
+use super::line::{FieldKind, ShortFile, parse};
 use super::output;
+use super::tally::Tally;
 use carried::Carried;
 use field::{Bits, Bytes, Residues};
 use file::{FILE_MOST, packet_count};
+use refusal::Refusal;
 use std::alloc::{AllocError, Global};
 
 /// What the program writes for this input.
 pub fn answer(heap: Global, input: &[u8]) -> Result<Vec<u8>, AllocError>
     ensures { IfOk result (λ v. v.items ≡ answered input.now) }
 {
-    match parse(input) {
-        Ok(job) => carried(heap, job.field, job.file),
+    let mut buffer = [0; FILE_MOST];
+    match carried(input, &mut buffer) {
+        Ok((packets, tally, file)) => output::whole(heap, packets, tally, file),
         Err(refusal) => output::refused(heap, refusal),
     }
 }
 
-// The file is carried in the field that the job asks for.
-fn carried(heap: Global, field: FieldKind, file: &[u8]) -> Result<Vec<u8>, AllocError>
-    requires { length file.now ≤ 16000 }
-    ensures { IfOk result (λ v. v.items ≡ carried_text field file.now) }
+// Reads the job, and carries its file in the field that it asks for. Answers the count of packets, the tally of frames
+// and the file as it stands in the buffer.
+fn carried<'a>(
+    input: &[u8],
+    buffer: &'a mut [u8; FILE_MOST],
+) -> Result<(u32, Tally, &'a [u8]), Refusal>
+    ensures { MatchResult result (λ came. whole_text came.0 came.1 came.2.now ≡ answered input.now) (λ refusal. refused_text (numbered refusal) ≡ answered input.now) }
 {
-    match field {
-        FieldKind::Bits => copied::<Bits>(heap, file),
-        FieldKind::Bytes => copied::<Bytes>(heap, file),
-        FieldKind::Residues => copied::<Residues>(heap, file),
+    let job = parse(input)?;
+    let file = ShortFile::new(job.file)?;
+    match job.field {
+        FieldKind::Bits => copied::<Bits>(file, buffer),
+        FieldKind::Bytes => copied::<Bytes>(file, buffer),
+        FieldKind::Residues => copied::<Residues>(file, buffer),
     }
 }
 
 // What is shown is the record's copy, not the file that came in.
-fn copied<C: Carried>(heap: Global, file: &[u8]) -> Result<Vec<u8>, AllocError>
-    requires { length file.now ≤ 16000 }
-    ensures { IfOk result (λ v. v.items ≡ copied_text C.Field.means.q file.now) }
+fn copied<'a, C: Carried>(
+    file: ShortFile<'_>,
+    buffer: &'a mut [u8; FILE_MOST],
+) -> Result<(u32, Tally, &'a [u8]), Refusal>
+    ensures { MatchResult result (λ came. whole_text came.0 came.1 came.2.now ≡ copied_text C.Field.means.q file.entry.bytes.now) (λ _. ⊥) }
 {
-    let mut numbers = [0; 4096];
-    let mut buffer = [0; FILE_MOST];
-    let packets = packet_count::<C>(file.len() as u32);
-    match carry::<C>(file, &mut numbers, &mut buffer) {
-        Ok(came) => {
-            let (tally, whole) = came;
-            match whole.show(&buffer) {
-                Ok(shown) => output::whole(heap, packets, tally, shown),
-                Err(refusal) => output::refused(heap, refusal),
-            }
-        }
-        Err(refusal) => output::refused(heap, refusal),
-    }
+    let packets = packet_count::<C>(file.bytes.len() as u32);
+    let (tally, whole) = carry::<C>(file, buffer)?;
+    Ok((packets, tally, whole.show(buffer)?))
 }

@@ -1,24 +1,53 @@
-//! How a receiver answered the frames sent to it.
-ghost use Rattle.std.specs.Prelude.{◌≡◌};
-ghost use Rattle.job.specs.Crossing.{all_fresh};
+//! The counts of a job.
+ghost use Rattle.std.specs.Prelude.{◌≡◌, ◌+◌, ◌-◌, ◌^◌, ◌<◌, IfOk, string_bytes};
+ghost use Rattle.job.specs.Counts.{answered_with, released_by, counts_text};
 
-#[derive(Clone, Copy)]
-pub(crate) struct Tally {
-    pub frames: u32,
+use receiver::Answer;
+use refusal::Refusal;
+use std::alloc::{AllocError, Global};
+
+/// How often frames were sent, and how a receiver answered those that came.
+#[derive(Clone, Copy, Default)]
+pub struct Tally {
+    pub sent: u32,
     pub fresh: u32,
     pub repeat: u32,
     pub refused: u32,
 }
 
 impl Tally {
-    pub(crate) fn new() -> Tally
-        ensures { result ≡ all_fresh 0 }
+    /// Counts an answer of the receiver, and gives how many packets it released.
+    pub fn count(&mut self, answer: Result<Answer, Refusal>) -> u32
+        requires { self.old.fresh + (self.old.repeat + self.old.refused) < 2 ^ 32 - 1 }
+        ensures counts { self.new ≡ answered_with answer self.old }
+        ensures released { result ≡ released_by answer }
     {
-        Tally {
-            frames: 0,
-            fresh: 0,
-            repeat: 0,
-            refused: 0,
+        match answer {
+            Ok(Answer::Fresh(released)) => {
+                self.fresh += 1;
+                released
+            }
+            Ok(Answer::Repeat) => {
+                self.repeat += 1;
+                0
+            }
+            Err(_) => {
+                self.refused += 1;
+                0
+            }
         }
+    }
+
+    /// The counts, a line each; the word stands for what was sent.
+    pub fn lines(self, heap: Global, word: &str) -> Result<String, AllocError>
+        ensures { IfOk result (λ text. string_bytes text ≡ counts_text word.now self) }
+    {
+        let Tally {
+            sent,
+            fresh,
+            repeat,
+            refused,
+        } = self;
+        format!(in heap; "{word} {sent}\nfresh {fresh}\nrepeat {repeat}\nrefused {refused}\n")
     }
 }

@@ -1,7 +1,7 @@
 use Rattle.std.proofs.Common.{◌≡◌, ℕ, false, List}
 use Rattle.link.specs.declared.plain.PlainLink.{PlainLink}
 use Rattle.link.specs.declared.scripted.ScriptedLink.{ScriptedLink}
-use Rattle.transfer.specs.Calls.{open_state}
+use Rattle.transfer.specs.Calls.{state_of}
 use Rattle.delivery.specs.declared.progress.Progress.{Progress}
 use Rattle.delivery.specs.Follows.{Follows}
 use Rattle.delivery.specs.Outcome.{linked}
@@ -15,5 +15,5 @@ invariant-loop-number g l =
     let p = linked g.C.Field.means g.C.Carried.carries g.S.Source.means in
     (l.transfer.forward ≡ l.initial.transfer.forward)
     × ((v : Progress g.row.C.Denot) (before buffer : List ℕ) (c : Course g.row.S.Denot ScriptedLink PlainLink)
-    → Follows p l.file before false l.admitted c (open_state l.initial.transfer) v buffer
-    → AdmitsLeft p l.file before l.number c (open_state l.transfer) v buffer)
+    → Follows p l.file.bytes.now before false l.admitted c (state_of l.initial.transfer) v buffer
+    → AdmitsLeft p l.file.bytes.now before l.number c (state_of l.transfer) v buffer)

@@ -7,6 +7,6 @@ returns g c =
     let q = g.C.Field.means.q in
     let short = g.met.C.Carried.lays.short in
     let long : length c.args.symbols ≡ 128 = omega arith in
-    let proper = alone-proper q c.args.number c.args.symbols g.met.C.Field.laws.least c.requires.0 long c.requires.1.0 in
-    let room : g.C.Carried.carries.len ≤ length c.args.frame.now = omega (arith, short, c.requires.1.1) in
+    let proper = alone-proper q c.args.number c.args.symbols g.met.C.Field.laws.least c.requires.0 long c.requires.1 in
+    let room : g.C.Carried.carries.len ≤ length c.args.frame.now = omega (arith, short) in
     known_ok _ c.write_data.result g.C.Carried.carries.len 400 (c.write_data.ensures.accepts proper room) short c.write_data.ensures.comes_back
