@@ -3,14 +3,14 @@ ghost use Rattle.std.specs.Prelude.{◌≡◌, ◌%◌, slice_index, refl};
 ghost use Rattle.carried.specs.Layouts.{eight_a_byte};
 ghost use Rattle.carried.specs.BitsLayout.{eight_a_byte_lays};
 
-use super::{Carried, byte_at, code_at};
+use super::{Carried, item_or};
 use field::Bits;
 
 // Code i as a bit.
 fn bit(codes: &[u16], i: usize) -> u8
     ensures { result ≡ slice_index codes.now i % 2 }
 {
-    (code_at(codes, i) % 2) as u8
+    (item_or(codes, i, 0) % 2) as u8
 }
 
 impl Carried for Bits {
@@ -44,6 +44,6 @@ impl Carried for Bits {
     }
 
     fn code(bytes: &[u8], i: usize) -> u16 {
-        u16::from(byte_at(bytes, i / 8) >> (7 - i % 8)) % 2
+        u16::from(item_or(bytes, i / 8, 0) >> (7 - i % 8)) % 2
     }
 }

@@ -3,7 +3,7 @@ ghost use Rattle.std.specs.Prelude.{refl};
 ghost use Rattle.carried.specs.Layouts.{one_byte};
 ghost use Rattle.carried.specs.BytesLayout.{one_byte_lays};
 
-use super::{Carried, byte_at, code_at};
+use super::{Carried, item_or};
 use field::Bytes;
 
 impl Carried for Bytes {
@@ -24,10 +24,10 @@ impl Carried for Bytes {
     ghost lays = { one_byte_lays };
 
     fn byte(codes: &[u16], k: usize) -> u8 {
-        (code_at(codes, k) % 256) as u8
+        (item_or(codes, k, 0) % 256) as u8
     }
 
     fn code(bytes: &[u8], i: usize) -> u16 {
-        u16::from(byte_at(bytes, i))
+        u16::from(item_or(bytes, i, 0))
     }
 }

@@ -1,7 +1,7 @@
 //! How the codes of a field lie in bytes.
 #![tactic(auto)]
 
-ghost use Rattle.std.specs.Prelude.{◌≡◌, ℕ, length, slice_index};
+ghost use Rattle.std.specs.Prelude.{◌≡◌, ℕ, length, slice_index_or};
 ghost use Rattle.carried.specs.Carries.{Carries, Lays, packed, unpacked};
 
 mod bits;
@@ -58,16 +58,9 @@ pub trait Carried: Field {
     ghost lays: { Lays 32 Self.Field.means.q carries };
 }
 
-// Code i, or 0 past the end.
-fn code_at(codes: &[u16], i: usize) -> u16
-    ensures { result ≡ slice_index codes.now i }
+// Item i, or what stands for it past the end.
+fn item_or<T: Copy>(items: &[T], i: usize, past: T) -> T
+    ensures { result ≡ slice_index_or items.now i past }
 {
-    codes.get(i).copied().unwrap_or(0)
-}
-
-// Byte i, or 0 past the end.
-fn byte_at(bytes: &[u8], i: usize) -> u8
-    ensures { result ≡ slice_index bytes.now i }
-{
-    bytes.get(i).copied().unwrap_or(0)
+    items.get(i).copied().unwrap_or(past)
 }

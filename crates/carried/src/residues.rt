@@ -3,7 +3,7 @@ ghost use Rattle.std.specs.Prelude.{refl};
 ghost use Rattle.carried.specs.Layouts.{two_bytes};
 ghost use Rattle.carried.specs.ResiduesLayout.{two_bytes_lay};
 
-use super::{Carried, byte_at, code_at};
+use super::{Carried, item_or};
 use field::Residues;
 
 impl Carried for Residues {
@@ -25,7 +25,7 @@ impl Carried for Residues {
 
     fn byte(codes: &[u16], k: usize) -> u8 {
         // By a shift, since a choice between two bytes makes slow vector code.
-        ((code_at(codes, k / 2) >> (8 - 8 * (k % 2))) % 256) as u8
+        ((item_or(codes, k / 2, 0) >> (8 - 8 * (k % 2))) % 256) as u8
     }
 
     fn code(bytes: &[u8], i: usize) -> u16 {
@@ -33,6 +33,6 @@ impl Carried for Residues {
             return 0;
         }
         let pair = &bytes[2 * i..];
-        u16::from_be_bytes([byte_at(pair, 0), byte_at(pair, 1)])
+        u16::from_be_bytes([item_or(pair, 0, 0), item_or(pair, 1, 0)])
     }
 }
