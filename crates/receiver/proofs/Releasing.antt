@@ -70,6 +70,3 @@ module _ (w : ℕ) (c : State) (d : List ℕ) (n : ℕ) (s : State) (numbers : L
 
   pub so_far_stop : n ≤ w → None ≡ ready w s → arrival (Ok (Fresh n)) s numbers ≡ fresh d (releasing w c w)
   so_far_stop h e = so_far-is ∙ ap (fresh d) (sym (releasing_stop w c n h (sym (e ∙ ap (ready w) before.state))))
-
-  pub so_far-all : n ≡ w → arrival (Ok (Fresh w)) s numbers ≡ fresh d (releasing w c w)
-  so_far-all h = ap (λ k. arrival (Ok (Fresh k)) s numbers) (sym h) ∙ so_far-is ∙ ap (λ k. fresh d (releasing w c k)) h
