@@ -11,7 +11,6 @@ use Rattle.carried.specs.Carries.{Carries}
 use Rattle.source.specs.Source.{Draws}
 use Rattle.file.proofs.Counts.{packets-hold}
 use Rattle.file.proofs.Beside.{begins_with}
-use Rattle.file.proofs.Spellings.{known}
 use Rattle.file.specs.Filled.{File, FilledOver}
 use Rattle.file.specs.Packets.{packets}
 use Rattle.file.specs.Spelling.{spelling_of}
@@ -65,7 +64,7 @@ module _
       -- the bytes of the file that the released packets hold are there, and all else is as before
       buffer-is : 16000 ≤ length buffer → (n : ℕ) → n ≡ held_bytes p.means.q file v.released → buffer ≡ written n file before
       buffer-is room n is =
-          begins_with (spelling_of p.means.q) (known p.means.q) file v.released v.filling.taken v.filling.size before buffer h.filled n is
+          begins_with (spelling_of p.means.q) file v.released v.filling.taken v.filling.size before buffer h.filled n is
           (omega (arith, h.filled.beside.long, h.runs.is_file.short))
 
       -- not done: the rounds are used up
@@ -85,7 +84,7 @@ module _
           let is = done-is p file before shut t d σ v buffer h ∙ is-done in
           let s = spelling_of p.means.q in
           let enough : count_of p file ≤ v.released = omega (arith, heard-released p file before shut t d σ v buffer h laws) in
-          let hold : length file ≡ held_bytes p.means.q file v.released = omega (arith, packets-hold s (known p.means.q) (length file) v.released enough) in (
+          let hold : length file ≡ held_bytes p.means.q file v.released = omega (arith, packets-hold s (length file) v.released enough) in (
             outcome-is p file before shut t d σ v buffer h true is ∙ ap (λ (x : Course S ScriptedLink PlainLink). outcome_of file x.log) ends,
             buffer-is room (length file) hold ∙ ap (λ (l : List ℕ). l ++ drop (length file) before) (take_all (length file) file (omega arith)),
           )

@@ -21,7 +21,7 @@ use Rattle.link.specs.OfScripted.{scripted, new_link}
 use Rattle.link.specs.Ring.{empty}
 use Rattle.link.specs.Script.{proper}
 use Rattle.file.specs.Packets.{packets, packet_of}
-use Rattle.file.specs.Spelling.{spelling_of}
+use Rattle.file.specs.Spelling.{room, spelling_of}
 use Rattle.receiver.specs.Log.{Arrival, released, fresh_count}
 use Rattle.receiver.specs.declared.state.Answer.{Answer}
 use Rattle.receiver.specs.declared.state.Answer.TheVariants.{Fresh, Repeat}
@@ -80,7 +80,7 @@ linked m carries draws = parts m carries draws (scripted 400) (plain 400)
 
 -- how many bytes of a file its first k packets hold, in a field of order q; four others come first
 abbrev pub held_bytes : ℕ → List ℕ → ℕ → ℕ
-held_bytes q file k = min (length file) ((spelling_of q).room * k - 4)
+held_bytes q file k = min (length file) (room (spelling_of q) * k - 4)
 
 -- a buffer whose first n bytes are those of the file, and all others as before
 abbrev pub written : ℕ → List ℕ → List ℕ → List ℕ

@@ -1,10 +1,9 @@
 use Rattle.std.proofs.Common.{◌≡◌, ℕ, ◌+◌, ◌*◌, ◌≤◌, length, take, sym, ap, ◌∙◌, arith}
 use Rattle.std.proofs.lemmas.Nat.{mul-le}
 use Rattle.file.specs.Packets.{packets, packet_of}
-use Rattle.file.specs.Spelling.{spelling_of}
+use Rattle.file.specs.Spelling.{room, spelling_of}
 use Rattle.file.proofs.Counts.{room-least}
 use Rattle.file.proofs.Fills.{begins}
-use Rattle.file.proofs.Spellings.{known}
 use Rattle.job.specs.Crossing.{all_fresh}
 use Rattle.job.proofs.Crossing.{packet-is, kept_ok, taken_alone}
 use Rattle.job.proofs.carry.carry.Goals as goal
@@ -12,9 +11,9 @@ use Rattle.job.proofs.carry.carry.Goals as goal
 pub cross-requires-clause-packet : goal.cross-requires-clause-packet
 cross-requires-clause-packet g c =
     let s = spelling_of g.C.Field.means.q in
-    let room : 4 + length c.args.file.bytes.now ≤ s.room * 16004 =
-    omega (arith, mul-le 1 16004 s.room 16004 (omega (arith, room-least s (known g.C.Field.means.q))) (omega arith)) in
-    (omega (arith, c.packet_count-number-end.ensures.least 16004 room), c.in_ok-symbols.ensures.codes.1)
+    let wide : 4 + length c.args.file.bytes.now ≤ room s * 16004 =
+    omega (arith, mul-le 1 16004 (room s) 16004 (omega (arith, room-least s)) (omega arith)) in
+    (omega (arith, c.packet_count-number-end.ensures.least 16004 wide), c.in_ok-symbols.ensures.codes.1)
 
 pub returns-in_err-add_all : goal.returns-in_err-add_all
 returns-in_err-add_all g c =
@@ -58,5 +57,5 @@ returns g c =
       c.loop-number.invariant.tally ∙ ap all_fresh count,
       done.1,
       ap (λ (n : ℕ). take n buffer) (sym done.1 ∙ size)
-          ∙ begins (spelling_of q) (known q) file c.loop-number.number filling.taken filling.size buffer filled done.0 fits,
+          ∙ begins (spelling_of q) file c.loop-number.number filling.taken filling.size buffer filled done.0 fits,
     )
