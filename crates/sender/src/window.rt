@@ -61,7 +61,7 @@ pub(crate) fn add_multiple<F: Field>(
 )
     ensures { (p : ℕ) → p < 128 → slice_index total.new p ≡ plus F.Field.means (slice_index total.old p) (times F.Field.means factor (slice_index packet.now p)) }
 {
-    // The packet by its index: of what a zipped iterator lends to be written, a proof knows no more than the count.
+    // By its place, since nothing is known of what is written through a zip.
     for (p, sum) in total.iter_mut().enumerate() {
         *sum = F::add(*sum, F::mul(factor, packet[p]));
     }
