@@ -1,11 +1,13 @@
 -- What the program has when it stops to admit, and when it stops.
-use Rattle.std.specs.Prelude.{◌≡◌, ℕ, ◌-◌, ◌*◌, ◌<◌, Bool, false, cond, List, length, Some, None, Ok, Err, Option, Result, ◌==◌}
+use Rattle.std.specs.Prelude.{◌≡◌, ℕ, ◌-◌, ◌*◌, ◌<◌, Bool, true, false, cond, List, length, Some, None, Ok, Err, Option, Result, MatchResult, ◌==◌}
 use Rattle.refusal.specs.declared.Refusal.{Refusal}
 use Rattle.link.specs.declared.plain.PlainLink.{PlainLink}
 use Rattle.link.specs.declared.scripted.ScriptedLink.{ScriptedLink}
 use Rattle.file.specs.Packets.{packets, packet_of}
 use Rattle.file.specs.Spelling.{spelling_of}
 use Rattle.transfer.specs.Parts.{Parts, State}
+use Rattle.transfer.specs.Calls.{state_of}
+use Rattle.delivery.specs.declared.exchange.Delivery.{Delivery}
 use Rattle.delivery.specs.declared.outcome.Ending.TheVariants.{Whole, Spent}
 use Rattle.delivery.specs.declared.outcome.Outcome.{Outcome}
 use Rattle.delivery.specs.declared.progress.Progress.{Progress}
@@ -45,12 +47,24 @@ module _ {S : Type 0} (p : Parts S ScriptedLink PlainLink) (file : List ℕ) whe
     Opened (Some made) = AllAdmitted made
     Opened None = (t : ℕ) × AllMade false t (rounds 32 p file_packet count_of 64000 c)
 
+  -- the rounds of an open transfer carry on any course of it that has admitted nothing
+  abbrev pub Opens : {C P : Type 0} → Result (Option ℕ) Refusal → Delivery P C S → List ℕ → Delivery P C S → List ℕ → Type 0
+  Opens r x before y after =
+      (c : Course S ScriptedLink PlainLink) → Follows p file before false 0 c (state_of x.transfer) x.progress before
+      → MatchResult r (Opened before c (state_of y.transfer) y.progress after) (λ _. ⊥)
+
   -- the outcome is that of the rounds, and the buffer as it says
   abbrev pub CarriesOut : S → List ℕ → List ℕ → Result Outcome Refusal → List ℕ → Type 0
   CarriesOut source script before (Ok o) after =
       (o ≡ outcome_of file (course_of p source script file).log)
       × Ends p source script file before after o.ending
   CarriesOut source script before (Err why) after = ⊥
+
+-- the rounds of a sealed transfer of t packets carry on any course of it, of any file, in which so many rounds were made
+abbrev pub Closes : {S C P : Type 0} → Parts S ScriptedLink PlainLink → ℕ → ℕ → Result (Unit {0}) Refusal → Delivery P C S → List ℕ → Delivery P C S → List ℕ → Type 0
+Closes {S} p made t r x buffer y after =
+    (file before : List ℕ) (c : Course S ScriptedLink PlainLink) → Follows p file before true t c (state_of x.transfer) x.progress buffer
+    → (r ≡ Ok tt) × AllMade p file before c (state_of y.transfer) y.progress after true t (closing 32 p (file_packet p file) t (64000 - made) c)
 
 -- an outcome of t packets, told by what was kept
 abbrev pub outcome_from : {C : Type 0} → List ℕ → ℕ → Progress C → Outcome

@@ -2,7 +2,7 @@
 use job::Tally;
 
 /// How the rounds ended.
-#[derive(Clone, Copy)]
+#[derive(Clone, Copy, PartialEq, Eq, Debug)]
 pub enum Ending {
     /// All packets were released: the file, of this length, is there.
     Whole(usize),
@@ -11,7 +11,7 @@ pub enum Ending {
 }
 
 /// The counts of a job, and its ending.
-#[derive(Clone, Copy)]
+#[derive(Clone, Copy, PartialEq, Eq, Debug)]
 pub struct Outcome {
     pub tally: Tally,
     pub ending: Ending,

@@ -8,7 +8,7 @@ ghost use Rattle.link.specs.declared.scripted.ScriptedLink.{ScriptedLink as Scri
 ghost use Rattle.transfer.specs.Calls.{state_of};
 ghost use Rattle.delivery.specs.Follows.{Follows, Small};
 ghost use Rattle.delivery.specs.Outcome.{linked};
-ghost use Rattle.delivery.specs.Phases.{file_packet, AdmitsOn, Opened, AllMade, CarriesOut, SmallAfter};
+ghost use Rattle.delivery.specs.Phases.{AdmitsOn, CarriesOut, Closes, Opens, SmallAfter};
 ghost use Rattle.delivery.specs.Rounds.{Course, closing};
 
 use super::exchange::Delivery;
@@ -67,7 +67,7 @@ impl<C: Carried, S: Source> Delivery<Open, C, S> {
     ) -> Result<Option<u32>, Refusal>
         requires count { count ≡ packets (spelling_of C.Field.means.q) (length file.bytes.now) }
         requires small { Small 0 self.old.progress self.old.transfer.forward }
-        ensures courses { (c : Course S Scripted Queue) → Follows (linked C.Field.means C.Carried.carries S.Source.means) file.entry.bytes.now buffer.old false 0 c (state_of self.old.transfer) self.old.progress buffer.old → MatchResult result (Opened (linked C.Field.means C.Carried.carries S.Source.means) file.entry.bytes.now buffer.old c (state_of self.new.transfer) self.new.progress buffer.new) (λ _. ⊥) }
+        ensures courses { Opens (linked C.Field.means C.Carried.carries S.Source.means) file.entry.bytes.now result self.old buffer.old self.new buffer.new }
         ensures small { IfOk result (λ n. SmallAfter n self.new.progress self.new.transfer.forward) }
     {
         let mut admitted = 0;
@@ -110,7 +110,7 @@ impl<C: Carried, S: Source> Delivery<Sealed, C, S> {
         buffer: &mut [u8; FILE_MOST],
     ) -> Result<(), Refusal>
         requires { (made < 64000) × (Small (4 * made) self.old.progress self.old.transfer.forward) }
-        ensures { (file before : List ℕ) (c : Course S Scripted Queue) → Follows (linked C.Field.means C.Carried.carries S.Source.means) file before true count c (state_of self.old.transfer) self.old.progress buffer.old → (result ≡ Ok tt) × AllMade (linked C.Field.means C.Carried.carries S.Source.means) file before c (state_of self.new.transfer) self.new.progress buffer.new true count (closing 32 (linked C.Field.means C.Carried.carries S.Source.means) (file_packet (linked C.Field.means C.Carried.carries S.Source.means) file) count (64000 - made) c) }
+        ensures { Closes (linked C.Field.means C.Carried.carries S.Source.means) made count result self.old buffer.old self.new buffer.new }
     {
         for round in made..ROUNDS {
             self.exchange(buffer)?;

@@ -122,7 +122,7 @@ pub crossed : (w : ℕ) → 0 < w → (m : Means) → Laws m → (k : ℕ) → k
     → (carries : Carries) (bytes numbers : List ℕ) → w * 128 ≤ length numbers → reading m carries w bytes ≡ Ok (alone w k p)
     → (b : State) → Waits w k b → (answer : Result Answer Refusal) (c : State) (after : List ℕ)
     → arrival answer c after ≡ arrived m carries w b bytes numbers → Crossed w k p numbers answer c after
-crossed w some m laws k few p codes carries bytes numbers room reads b waits answer c after e =
+crossed w some m laws k few p codes carries bytes numbers room reads b waits answer c now e =
     let is = e ∙ ap (λ (x : State). arrived m carries w x bytes numbers) (state-waits w k b waits)
     ∙ alone_arrives w some m laws k few p codes b.top b.kept carries bytes numbers room reads in
     record {

@@ -16,15 +16,23 @@ pub fn refused(heap: Global, refusal: Refusal) -> Result<Vec<u8>, AllocError>
     Ok(text.into_bytes())
 }
 
+/// What came of a file: its count of packets, the tally of their frames, and the file as it was put together again.
+#[derive(Clone, Copy)]
+pub(crate) struct Copied<'a> {
+    pub packets: u32,
+    pub tally: Tally,
+    pub file: &'a [u8],
+}
+
 /// The count of packets, the tally of frames, the file's length, and the file itself.
-pub(crate) fn whole(
-    heap: Global,
-    packets: u32,
-    tally: Tally,
-    file: &[u8],
-) -> Result<Vec<u8>, AllocError>
-    ensures { IfOk result (λ v. v.items ≡ whole_text packets tally file.now) }
+pub(crate) fn whole(heap: Global, copied: Copied<'_>) -> Result<Vec<u8>, AllocError>
+    ensures { IfOk result (λ v. v.items ≡ whole_text copied.entry.packets copied.entry.tally copied.entry.file.now) }
 {
+    let Copied {
+        packets,
+        tally,
+        file,
+    } = copied;
     let counts = tally.lines(heap, "frames")?;
     let length = file.len();
     let text = format!(in heap; "packets {packets}\n{counts}whole {length}\n")?;

@@ -7,7 +7,7 @@ ghost use Rattle.job.specs.Output.{refused_text, whole_text};
 use super::carry::carry;
 use super::line::{FieldKind, ShortFile, parse};
 use super::output;
-use super::tally::Tally;
+use super::output::Copied;
 use carried::Carried;
 use field::{Bits, Bytes, Residues};
 use file::{FILE_MOST, packet_count};
@@ -20,18 +20,14 @@ pub fn answer(heap: Global, input: &[u8]) -> Result<Vec<u8>, AllocError>
 {
     let mut buffer = [0; FILE_MOST];
     match carried(input, &mut buffer) {
-        Ok((packets, tally, file)) => output::whole(heap, packets, tally, file),
+        Ok(copied) => output::whole(heap, copied),
         Err(refusal) => output::refused(heap, refusal),
     }
 }
 
-// Reads the job, and carries its file in the field that it asks for. Answers the count of packets, the tally of frames
-// and the file as it stands in the buffer.
-fn carried<'a>(
-    input: &[u8],
-    buffer: &'a mut [u8; FILE_MOST],
-) -> Result<(u32, Tally, &'a [u8]), Refusal>
-    ensures { MatchResult result (λ came. whole_text came.0 came.1 came.2.now ≡ answered input.now) (λ refusal. refused_text (numbered refusal) ≡ answered input.now) }
+// Reads the job, and carries its file in the field that it asks for.
+fn carried<'a>(input: &[u8], buffer: &'a mut [u8; FILE_MOST]) -> Result<Copied<'a>, Refusal>
+    ensures { MatchResult result (λ came. whole_text came.packets came.tally came.file.now ≡ answered input.now) (λ refusal. refused_text (numbered refusal) ≡ answered input.now) }
 {
     let job = parse(input)?;
     let file = ShortFile::new(job.file)?;
@@ -46,10 +42,15 @@ fn carried<'a>(
 fn copied<'a, C: Carried>(
     file: ShortFile<'_>,
     buffer: &'a mut [u8; FILE_MOST],
-) -> Result<(u32, Tally, &'a [u8]), Refusal>
-    ensures { MatchResult result (λ came. whole_text came.0 came.1 came.2.now ≡ copied_text C.Field.means.q file.entry.bytes.now) (λ _. ⊥) }
+) -> Result<Copied<'a>, Refusal>
+    ensures { MatchResult result (λ came. whole_text came.packets came.tally came.file.now ≡ copied_text C.Field.means.q file.entry.bytes.now) (λ _. ⊥) }
 {
     let packets = packet_count::<C>(file.bytes.len() as u32);
     let (tally, whole) = carry::<C>(file, buffer)?;
-    Ok((packets, tally, whole.show(buffer)?))
+    let file = whole.show(buffer)?;
+    Ok(Copied {
+        packets,
+        tally,
+        file,
+    })
 }

@@ -7,7 +7,7 @@ use refusal::Refusal;
 use std::alloc::{AllocError, Global};
 
 /// How often frames were sent, and how a receiver answered those that came.
-#[derive(Clone, Copy, Default)]
+#[derive(Clone, Copy, PartialEq, Eq, Debug, Default)]
 pub struct Tally {
     pub sent: u32,
     pub fresh: u32,
