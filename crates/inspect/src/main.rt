@@ -35,13 +35,9 @@ fn show(rt: &impl Print, frame: &[u8]) -> io::Result<()> {
 
 fn show_data<C: Carried>(rt: &impl Print, frame: &[u8]) -> io::Result<()> {
     match read_data::<C>(frame) {
-        Ok(data) => println!(
-            rt;
+        Ok(data) => println!(rt;
             "base {} width {} slots {:?} symbols {:?}",
-            data.base,
-            data.width,
-            data.slots,
-            data.symbols
+            data.base, data.width, data.slots, data.symbols
         ),
         Err(refusal) => show_refusal(rt, refusal),
     }

@@ -46,9 +46,7 @@ fn hear<C: Carried>(rt: &impl Print, receiver: &mut Receiver<C>, frame: &[u8]) -
             show_packets(rt, count, &numbers)?;
         }
         Ok(Answer::Repeat) => println!(rt; "repeat report {released} {unseen}")?,
-        Err(refusal) => {
-            println!(rt; "refused {} report {released} {unseen}", refusal.number())?
-        }
+        Err(refusal) => { println!(rt; "refused {} report {released} {unseen}", refusal.number())? }
     }
     show_missing(rt, receiver)
 }
