@@ -6,7 +6,7 @@ ghost use Rattle.sender.specs.Steps.{empty, is_packet_lem, packet_at};
 use field::{Field, all_below};
 use frame::{SYMBOLS, WINDOW};
 
-// Packet k stands at place k % 32.
+// Packet k stands at place k % 32: an array, since a sender asks for no memory.
 #[derive(Clone, Copy)]
 pub struct Window {
     pub admitted: u32,
