@@ -5,6 +5,14 @@ use Rattle.std.specs.Int.Digits.{number_from_digits}
 use Rattle.file.specs.declared.spelling.Spelling.{Spelling}
 use Rattle.file.specs.declared.spelling.Spelling.TheVariants.{Bits, Bytes}
 
+-- a symbol is a bit: eight spell a byte
+abbrev pub in_bits : Spelling
+in_bits = Bits
+
+-- a symbol is a byte
+abbrev pub in_bytes : Spelling
+in_bytes = Bytes
+
 -- what each symbol is a digit to
 abbrev pub base : Spelling → ℕ
 base Bits = 2
@@ -22,7 +30,7 @@ room Bytes = 128
 
 -- in a field of order q a symbol is a byte where every byte is a code, and else a bit
 unfoldable pub spelling_of : ℕ → Spelling
-spelling_of q = cond (nat_lt q 256) Bits Bytes
+spelling_of q = cond (nat_lt q 256) in_bits in_bytes
 
 -- digit i of the n digits of x to the base b, the highest being digit 0
 abbrev pub digit : ℕ → ℕ → ℕ → ℕ → ℕ
