@@ -6,7 +6,7 @@ ghost use Rattle.sender.specs.Steps.{empty, is_packet_lem, packet_at};
 use field::{Field, all_below};
 use frame::{SYMBOLS, WINDOW};
 
-// Packet k stands at place k % 32.
+// Packet k stands at place k % 32: an array, since a sender asks for no memory.
 #[derive(Clone, Copy)]
 pub struct Window {
     pub admitted: u32,
@@ -61,7 +61,7 @@ pub(crate) fn add_multiple<F: Field>(
 )
     ensures { (p : ℕ) → p < 128 → slice_index total.new p ≡ plus F.Field.means (slice_index total.old p) (times F.Field.means factor (slice_index packet.now p)) }
 {
-    // The packet by its index: of what a zipped iterator lends to be written, a proof knows no more than the count.
+    // By its place, since nothing is known of what is written through a zip.
     for (p, sum) in total.iter_mut().enumerate() {
         *sum = F::add(*sum, F::mul(factor, packet[p]));
     }

@@ -33,7 +33,8 @@ pub trait Source {
     ghost laws: { DrawsLaws 32 means };
 }
 
-// The check of a draw's order and width that every source makes, with the 32 slots at hand, before it draws.
+// The check of a draw's order and width that every source makes, with the 32 slots at hand, before it draws. The few
+// calls that the sources' draws share are no longer than a trait of their own that would hold them.
 fn check_draw(order: u16, width: usize) -> Result<(), Refusal>
     ensures { MatchResult result (λ _. (2 ≤ order) × (1 ≤ width) × (width ≤ 32)) (λ e. (e ≡ BadDraw) × ((slots : List ℕ) → allowed 32 order width slots ≡ false)) }
 {

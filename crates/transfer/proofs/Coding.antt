@@ -9,8 +9,7 @@ use Rattle.algebra.specs.Frames.{Codes, Frame}
 use Rattle.algebra.specs.Streams.{Stream, Fits, Fitting}
 use Rattle.field.proofs.Zeros.{zero_times}
 use Rattle.sender.proofs.Payloads.{sum_same}
-use Rattle.sender.specs.Packets.{Begins}
-use Rattle.transfer.specs.Log.{admitting}
+use Rattle.sender.specs.Packets.{Begins, grown}
 
 -- the frame fits every stream that begins with the packets, and tells of no packet after them
 pub record Coding (m : Means) (packets : List (List ℕ)) (f : Frame) : Type 0 where
@@ -23,7 +22,7 @@ begins-less packets more s b k l =
 
 -- it still does when another packet is admitted
 pub coding-more : (m : Means) (packets : List (List ℕ)) (f : Frame) → Coding m packets f
-    → (packet : List ℕ) (r : Result ℕ Refusal) → Coding m (admitting packet r packets) f
+    → (packet : List ℕ) (r : Result ℕ Refusal) → Coding m (grown packets packet r) f
 coding-more m packets f h packet (Ok t) = record {
   fits = λ s b. h.fits s (begins-less packets (packet ∷ []) s b);
   ends = λ k l. h.ends k (omega (arith, length-append packets (packet ∷ [])));

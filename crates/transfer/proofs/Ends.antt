@@ -7,7 +7,7 @@ use Rattle.field.specs.Field.{Means}
 use Rattle.carried.specs.Carries.{Carries}
 use Rattle.frame.specs.ReportFrame.{reading_report}
 use Rattle.sender.proofs.Keeping.{holds-none, admitting_appends, hearing_keeps}
-use Rattle.sender.specs.Packets.{Holds, grown}
+use Rattle.sender.specs.Packets.{Holds}
 use Rattle.sender.specs.Steps.{Sound, admitting, is_packet_lem, heeding}
 use Rattle.sender.specs.declared.window.Window.{Window}
 use Rattle.receiver.specs.Log.{Arrival, call}
@@ -15,15 +15,10 @@ use Rattle.receiver.specs.Run.{Run as Receiver-run}
 use Rattle.receiver.specs.declared.state.Answer.{Answer}
 use Rattle.receiver.specs.declared.state.State.{State as Receiver-state}
 use Rattle.transfer.specs.Log.{Event, arriving, arrivals, admitted, hearing, heard}
-use Rattle.transfer.specs.Log.{admitting as one_more}
 use Rattle.transfer.specs.Parts.{Parts, State, started}
 use Rattle.transfer.specs.Run.{Run}
 use Rattle.transfer.specs.Steps.{some}
-use Rattle.transfer.proofs.Calls.{admission, outcome, Each, by_run}
-
-grown-is : (packets : List (List ℕ)) (packet : List ℕ) (r : Result ℕ Refusal) → grown packets packet r ≡ one_more packet r packets
-grown-is packets packet (Ok t) = refl
-grown-is packets packet (Err e) = refl
+use Rattle.transfer.proofs.Calls.{outcome, Each, by_run}
 
 -- a fetch that took a frame made one more call, whatever its answer
 pub one-call : (frame before after : List ℕ) (r : Result Answer Refusal) (calls : List Arrival)
@@ -91,8 +86,7 @@ module _ {S D R : Type 0} (w : ℕ) (p : Parts S D R) where
       admits = λ packet. record {
         receiver = h.receiver;
         sound = admitting-sound w p.means σ.window h.sound packet;
-        holds = subst (λ ps. Holds w p.means.q ps (admission w p σ packet).1) (grown-is (admitted log) packet (admission w p σ packet).0)
-            (admitting_appends w p.means σ.window h.sound packet _ _ refl (admitted log) h.holds);
+        holds = admitting_appends w p.means σ.window h.sound packet _ _ refl (admitted log) h.holds;
         numbers_are = admitting-numbers w p.means σ.window (heard log) h.numbers_are packet;
       };
       seals = h;

@@ -11,10 +11,11 @@ use Rattle.frame.specs.declared.data.Data.{Data}
 use Rattle.algebra.specs.Combinations.{rows, Seen}
 use Rattle.algebra.specs.Frames.{Frame}
 use Rattle.algebra.specs.Streams.{Fits, Fitting}
+use Rattle.sender.specs.Packets.{grown}
 use Rattle.sender.specs.Steps.{heeding}
 use Rattle.sender.specs.declared.window.Window.{Window}
 use Rattle.receiver.specs.Log.{Arrival, said, accepted, released}
-use Rattle.transfer.specs.Log.{admitting, hearing}
+use Rattle.transfer.specs.Log.{hearing}
 use Rattle.transfer.specs.Steps.{some}
 use Rattle.transfer.proofs.Coding.{Coding, coding-more}
 use Rattle.transfer.proofs.Ends.{Numbers}
@@ -59,7 +60,7 @@ module _ (m : Means) (carries : Carries) (w : ℕ) where
   coded_later packets limit later l g t = record { says = t.says; read = t.read; coding = t.coding; near = omega (arith, t.near) }
 
   pub coded-more : (packets : List (List ℕ)) (limit : ℕ) (g : List ℕ) → Coded packets limit g
-      → (packet : List ℕ) (r : Result ℕ Refusal) → Coded (admitting packet r packets) limit g
+      → (packet : List ℕ) (r : Result ℕ Refusal) → Coded (grown packets packet r) limit g
   coded-more packets limit g t packet r =
       record { says = t.says; read = t.read; coding = coding-more m packets (said t.says) t.coding packet r; near = t.near }
 

@@ -1,6 +1,7 @@
 -- The log of a transfer: all calls since it was new, and what they show. A log has the newest call first.
-use Rattle.std.specs.Prelude.{ℕ, max, List, [], ◌∷◌, ◌++◌, length, Some, None, Ok, Err, Option, Result}
+use Rattle.std.specs.Prelude.{ℕ, max, List, [], ◌∷◌, length, Some, None, Ok, Err, Option, Result}
 use Rattle.refusal.specs.declared.Refusal.{Refusal}
+use Rattle.sender.specs.Packets.{grown}
 use Rattle.receiver.specs.Log.{Arrival, call}
 use Rattle.receiver.specs.declared.state.Answer.{Answer}
 
@@ -29,15 +30,10 @@ arrivals (Event.send frame answer ∷ log) = arrivals log
 arrivals (Event.fetch frame before answer after ∷ log) = arriving frame before answer after (arrivals log)
 arrivals (Event.hear frame answer ∷ log) = arrivals log
 
--- one more packet, where it was admitted
-abbrev pub admitting : List ℕ → Result ℕ Refusal → List (List ℕ) → List (List ℕ)
-admitting packet (Ok count) packets = packets ++ packet ∷ []
-admitting packet (Err refusal) packets = packets
-
 -- the admitted packets, the oldest first
 abbrev pub admitted : List Event → List (List ℕ)
 admitted [] = []
-admitted (Event.admit packet answer ∷ log) = admitting packet answer (admitted log)
+admitted (Event.admit packet answer ∷ log) = grown (admitted log) packet answer
 admitted (Event.seal ∷ log) = admitted log
 admitted (Event.send frame answer ∷ log) = admitted log
 admitted (Event.fetch frame before answer after ∷ log) = admitted log
