@@ -1,7 +1,8 @@
 -- A packet that arrives in a frame of its own, in its turn, at a receiver whose table is empty: it is fresh, and is
 -- released at once.
-use Rattle.std.proofs.Common.{◌≡◌, ℕ, zero, suc, ◌+◌, ◌%◌, ◌<◌, Bool, true, false, not, ◌||◌, eqb, List, [], ◌∷◌, map, get_or, set, replicate, Some, None, Option, sym, refl, ap, ◌∙◌, subst, inl, inr, add-zero, arith}
+use Rattle.std.proofs.Common.{◌≡◌, ℕ, zero, suc, ◌+◌, ◌%◌, ◌<◌, Bool, true, not, ◌||◌, eqb, List, [], ◌∷◌, map, get_or, set, replicate, Some, None, Option, sym, refl, ap, ◌∙◌, subst, inl, inr, add-zero, arith}
 use lib.ListN.{length-replicate}
+use Rattle.std.proofs.Math.Bool.{or-true}
 use Rattle.std.proofs.ByRecursion.{All-set, All-from_get_or, All-weaker}
 use Rattle.std.proofs.lemmas.List.{get_or-replicate, get_or_past, get_or-set_same, get_or-set_other, set-get_or}
 use Rattle.std.proofs.lemmas.Bool.{cases_eq, cases_lt, cond-true, eq-eqb}
@@ -34,10 +35,6 @@ every_true : (p : ℕ → Bool) → ((i : ℕ) → p i ≡ true) → (n : ℕ) �
 unfolding every
 every_true p h zero = refl
 every_true p h (suc n) = rw (every_true p h n, h n)
-
-or_true : (a b : Bool) → b ≡ true → (a || b) ≡ true
-or_true true b e = refl
-or_true false b e = e
 
 map_same : (f : ℕ → ℕ) (xs : List ℕ) → All (λ x. f x ≡ x) xs → map f xs ≡ xs
 map_same f [] a = refl
@@ -90,7 +87,7 @@ module _ (w : ℕ) where
         at i =
             elim (cases_eq i s) [
               | inl e ↦ ap (λ (b : Bool). b || eqb (get_or alone_row.slots i 0) 0) (eq-eqb i s e)
-              | inr ne ↦ or_true (eqb i s) _ (eq-eqb _ 0 (get_or-set_other (replicate w 0) s i 1 0 ne ∙ zero_at i))
+              | inr ne ↦ ap (λ (b : Bool). eqb i s || b) (eq-eqb _ 0 (get_or-set_other (replicate w 0) s i 1 0 ne ∙ zero_at i)) ∙ or-true (eqb i s)
             ]
 
     one_code : 1 < m.q
