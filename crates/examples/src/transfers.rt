@@ -4,7 +4,6 @@ use frame::{SYMBOLS, WINDOW};
 use link::PlainLink;
 use receiver::Answer;
 use refusal::Refusal;
-use sender::Sends;
 use source::Plain;
 use std::process::Abort;
 use std::test::Fail;

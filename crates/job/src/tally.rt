@@ -1,6 +1,6 @@
 //! The counts of a job.
 ghost use Rattle.std.specs.Prelude.{◌≡◌, ◌+◌, ◌-◌, ◌^◌, ◌<◌, IfOk, string_bytes};
-ghost use Rattle.job.specs.Counts.{answered_with, released_by, counts_text};
+ghost use Rattle.job.specs.Counts.{answered_with, counted_by, one_more, released_by, counts_text};
 
 use receiver::Answer;
 use refusal::Refusal;
@@ -16,23 +16,23 @@ pub struct Tally {
 }
 
 impl Tally {
-    /// Counts an answer of the receiver, and gives how many packets it released.
+    /// Counts an answer of the receiver, and gives how many packets it released. A count stays at its most.
     pub fn count(&mut self, answer: Result<Answer, Refusal>) -> u32
-        requires { self.old.fresh + (self.old.repeat + self.old.refused) < 2 ^ 32 - 1 }
-        ensures counts { self.new ≡ answered_with answer self.old }
+        ensures exact { self.new ≡ counted_by one_more answer self.old }
+        ensures counts { self.old.fresh + (self.old.repeat + self.old.refused) < 2 ^ 32 - 1 → self.new ≡ answered_with answer self.old }
         ensures released { result ≡ released_by answer }
     {
         match answer {
             Ok(Answer::Fresh(released)) => {
-                self.fresh += 1;
+                self.fresh = self.fresh.saturating_add(1);
                 released
             }
             Ok(Answer::Repeat) => {
-                self.repeat += 1;
+                self.repeat = self.repeat.saturating_add(1);
                 0
             }
             Err(_) => {
-                self.refused += 1;
+                self.refused = self.refused.saturating_add(1);
                 0
             }
         }
