@@ -14,6 +14,7 @@ use field::Field;
 /// unpacked, count as 0.
 pub trait Carried: Field {
     /// The first byte of a data frame.
+    // A number, and no enum of kinds: it is a byte of the frame, and a field of another crate brings its own.
     const KIND: u8;
 
     ghost KIND: { ℕ };

@@ -30,7 +30,8 @@ pub fn run(job: Job<'_>, buffer: &mut [u8]) -> Result<Outcome, Refusal>
     in_field(job.field, job.source, forward, file, buffer)
 }
 
-// The field that the job asks for.
+// The field that the job asks for. What was checked goes on to where it is used, two calls further: a struct of it would
+// be taken apart there at once.
 fn in_field(
     field: FieldKind,
     source: SourceKind,
@@ -41,6 +42,7 @@ fn in_field(
     requires { forward.queue.count ≡ 0 }
     ensures { (script : List ℕ) → forward ≡ new_link 16 400 64 script → CarriesOut (setup_of field source).parts file.entry.bytes.now (setup_of field source).source script buffer.old result buffer.new }
 {
+    // A match, since each arm is one function at another type, which a closure cannot be.
     match field {
         FieldKind::Bits => from_source::<Bits>(source, forward, file, buffer),
         FieldKind::Bytes => from_source::<Bytes>(source, forward, file, buffer),
@@ -58,6 +60,7 @@ fn from_source<C: Carried>(
     requires { forward.queue.count ≡ 0 }
     ensures { (script : List ℕ) → forward ≡ new_link 16 400 64 script → CarriesOut (with_source source C.Field.means C.Carried.carries).parts file.entry.bytes.now (with_source source C.Field.means C.Carried.carries).source script buffer.old result buffer.new }
 {
+    // A match, for the same reason.
     match source {
         SourceKind::Plain => carry::<C, Plain>(Plain::new(), forward, file, buffer),
         SourceKind::Woven => carry::<C, Woven>(Woven::new(0), forward, file, buffer),

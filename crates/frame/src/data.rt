@@ -10,6 +10,7 @@ use field::{all_below, all_zero};
 use refusal::Refusal;
 
 /// What a data frame says: slot i holds the coefficient of packet base + i, and every other coefficient is 0.
+// The width stands beside all 32 slots, as in the frame itself: those past it are there, and have to be 0.
 #[derive(Clone, Copy, PartialEq, Eq, Debug)]
 pub struct Data {
     pub base: u32,

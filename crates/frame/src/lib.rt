@@ -26,6 +26,7 @@ pub const SYMBOLS: usize = 128;
 pub const STREAM: u32 = 65_536;
 
 /// The kind of a report.
+// A number, as the kinds of data frames are, which each field brings itself.
 pub const REPORT_KIND: u8 = 4;
 
 /// The length of a report in bytes.

@@ -31,6 +31,7 @@ fn carried<'a>(input: &[u8], buffer: &'a mut [u8; FILE_MOST]) -> Result<Copied<'
 {
     let job = parse(input)?;
     let file = ShortFile::new(job.file)?;
+    // A match, since each arm is one function at another type, which a closure cannot be.
     match job.field {
         FieldKind::Bits => copied::<Bits>(file, buffer),
         FieldKind::Bytes => copied::<Bytes>(file, buffer),
