@@ -4,9 +4,9 @@ use Rattle.std.proofs.lemmas.List.{get_or_append_left, get_or-append_right, leng
 use Rattle.std.proofs.lemmas.Bool.{and_parts, cases_eq, cond_both, eqb-true, eqb-false, ltb-true}
 use Rattle.refusal.specs.declared.Refusal.{Refusal}
 use Rattle.field.specs.Field.{Means}
-use Rattle.frame.specs.DataFrame.{every}
 use Rattle.frame.specs.ReportFrame.{reading_report}
-use Rattle.frame.proofs.Every.{every-at}
+use Rattle.std.specs.List.{list_all}
+use Rattle.std.proofs.lemmas.List.Sums.{AllPass-from_list_all}
 use Rattle.algebra.specs.Frames.{Codes}
 use Rattle.algebra.proofs.Ring.{apart}
 use Rattle.sender.specs.declared.window.Window.{Window}
@@ -23,9 +23,9 @@ holds-none w q = record {
 
 packet-codes : (q : ℕ) (packet : List ℕ) → is_packet_lem q packet ≡ true → Codes q 128 packet
 packet-codes q packet e =
-    let both = and_parts (every (λ x. ltb x q) packet) (eqb (length packet) 128) e in
+    let both = and_parts (list_all (λ x. ltb x q) packet) (eqb (length packet) 128) e in
     let long : length packet ≡ 128 = eqb-true _ _ both.1 in
-    record { long = long; codes = λ i h. ltb-true _ _ (every-at (λ x. ltb x q) packet both.0 i (omega arith)) }
+    record { long = long; codes = λ i h. ltb-true _ _ (AllPass-from_list_all (λ x. ltb x q) packet both.0 i 0 (omega arith)) }
 
 module _ (w q : ℕ) (x : Window) (sound : Sound w x) (packets : List (List ℕ)) (holds : Holds w q packets x) where
   holds-packet : (packet : List ℕ) → Codes q 128 packet → (x.admitted ≡ x.heard + w → ⊥) → Holds w q (packets ++ packet ∷ []) (with_packet w x packet)

@@ -1,12 +1,12 @@
 -- What a sender's calls answer, and what they leave. A window has room for w packets.
 use Rattle.std.specs.Prelude.{ℕ, ◌+◌, ◌-◌, ◌%◌, ◌≤◌, max, Bool, cond, ◌&&◌, ltb, List, [], ◌++◌, map, length, drop, replicate, Ok, Err, Result, ◌==◌, nat_le, nat_lt, slice_index, slice_index_or, slice_set}
-use Rattle.std.specs.List.{range_with_len}
+use Rattle.std.specs.List.{list_all, range_with_len}
 use Rattle.refusal.specs.declared.Refusal.{Refusal}
 use Rattle.refusal.specs.declared.Refusal.TheVariants.{ShortBuffer, BadPacket, StreamFull, WindowFull, WindowEmpty, BadReport}
 use Rattle.field.specs.Field.{Means, times}
 use Rattle.carried.specs.Carries.{Carries}
 use Rattle.frame.specs.declared.data.Data.{Data}
-use Rattle.frame.specs.DataFrame.{every, frame_of}
+use Rattle.frame.specs.DataFrame.{frame_of}
 use Rattle.frame.specs.ReportFrame.{reading_report}
 use Rattle.algebra.specs.Streams.{sum}
 use Rattle.source.specs.Source.{Draws}
@@ -23,7 +23,7 @@ empty w = record { admitted = 0; heard = 0; unseen = 0; packets = replicate w (r
 
 -- a packet is 128 codes
 abbrev pub is_packet_lem : ℕ → List ℕ → Bool
-is_packet_lem q xs = every (λ x. ltb x q) xs && length xs == 128
+is_packet_lem q xs = list_all (λ x. ltb x q) xs && length xs == 128
 
 -- the window with one more packet: packet k stands at place k % w
 abbrev pub with_packet : ℕ → Window → List ℕ → Window

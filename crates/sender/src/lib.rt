@@ -53,7 +53,7 @@ impl<P, C: Carried, S: Source> Sender<P, C, S> {
         ensures same { self.new.window ≡ self.old.window }
         ensures tells { TellsPackets 32 C.Field.means C.Carried.carries S.Source.means self.old.window self.old.source result frame.new }
     {
-        if frame.len() < C::frame_len() {
+        if frame.len() < C::LEN {
             return Err(Refusal::ShortBuffer);
         }
         if self.window.is_empty() {
@@ -116,6 +116,6 @@ fn draw_row<C: Carried, S: Source>(source: &mut S, width: u32) -> Result<[u16; W
     ensures next { source.new ≡ S.Source.means.next source.old C.Field.means.q width }
 {
     let mut slots = [0; WINDOW];
-    source.draw(C::order(), width as usize, &mut slots)?;
+    source.draw(C::Q, width as usize, &mut slots)?;
     Ok(slots)
 }

@@ -50,7 +50,7 @@ pub(crate) fn as_packet<F: Field>(packet: &[u16]) -> Option<&[u16; SYMBOLS]>
     ensures { MatchOption result (is_packet_lem F.Field.means.q packet.now ≡ false) (λ symbols. (is_packet_lem F.Field.means.q packet.now ≡ true) × (symbols.now ≡ packet.now)) }
 {
     let symbols = packet.as_array::<SYMBOLS>()?;
-    all_below(packet, F::order()).then_some(symbols)
+    all_below(packet, F::Q).then_some(symbols)
 }
 
 // Adds a multiple of a packet to a sum of packets.

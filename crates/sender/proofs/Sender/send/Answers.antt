@@ -11,6 +11,7 @@ returns g c =
     let source = c.args.self.now.source in
     let d = g.S.Source.means in
     let m = g.C.Field.means in
+    let len = g.met.C.Carried.len in
     let some = eqb-false x.unseen x.admitted (sym c.is_empty.ensures ∙ c.if-is_empty.false) in
     let drawn-row : c.in_ok-slots.slots ≡ d.slots source m.q (width x) = cc (c.in_ok-slots.ensures.row, c.width-width.ensures) in
     let exact =
