@@ -4,7 +4,7 @@
 use std::io;
 use std::io::{Read, Write};
 
-// As haul's but for the library. One for both would promise nothing, since no clause tells what standard input gives.
+// As haul's but for the library: one for both could promise nothing, since no clause tells what a program reads.
 fn main(rt: HostRuntime) -> io::Result<()> {
     let heap = rt.alloc();
     let mut input = Vec::new(heap);

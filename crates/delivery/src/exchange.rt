@@ -1,5 +1,5 @@
 //! What a round does once packets are admitted: a send, fetches until none, hears until none.
-ghost use Rattle.std.specs.Prelude.{◌≡◌, ℕ, ◌+◌, List};
+ghost use Rattle.std.specs.Prelude.{ℕ, ◌+◌, List};
 ghost use Rattle.delivery.specs.Follows.{Leads, LeadsOn, Small};
 ghost use Rattle.delivery.specs.Outcome.{linked};
 ghost use Rattle.delivery.specs.Rounds.{send_one, fetch_all_lem, hear_all_lem, exchange};

@@ -2,7 +2,7 @@
 use job::Tally;
 
 /// How the rounds ended.
-// An enum, and no `Result`: a run that is spent is no error, and is written out like one that is whole.
+// An enum and no `Result`: rounds that are used up are an outcome, and no refusal.
 #[derive(Clone, Copy, PartialEq, Eq, Debug)]
 pub enum Ending {
     /// All packets were released: the file, of this length, is there.

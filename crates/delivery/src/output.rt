@@ -20,6 +20,7 @@ pub(crate) fn outcome(heap: Global, outcome: Outcome, buffer: &[u8]) -> Result<V
 }
 
 // The counts, the file's length, and the file itself.
+// The other program's text has a line more in front, so each text stands in one place, as it is written.
 fn whole(heap: Global, tally: Tally, file: &[u8]) -> Result<Vec<u8>, AllocError>
     ensures { IfOk result (λ v. v.items ≡ counts_text (codes "sent") tally ++ file_text file.now) }
 {

@@ -13,8 +13,8 @@ use job::parse;
 use refusal::Refusal;
 use std::alloc::{AllocError, Global};
 
-/// What the program writes for this input. The file that it shows is the one that was put together, not the one that came
-/// in.
+/// What the program writes for this input. The file that it shows is the one that was put together, not the one that
+/// came in.
 pub fn answer(heap: Global, input: &[u8]) -> Result<Vec<u8>, AllocError>
     ensures { IfOk result (λ v. v.items ≡ answered input.now) }
 {

@@ -16,6 +16,7 @@ use refusal::Refusal;
 
 /// The greatest released number heard, the counts, the buffer of the packets released last, and the record that all
 /// released packets go to.
+// The buffer is an array: below the program no memory is asked for.
 #[derive(Drop)]
 pub(crate) struct Progress<C> {
     pub heard: u32,

@@ -1,15 +1,12 @@
 //! The rounds that carry a file.
-ghost use Rattle.std.specs.Prelude.{◌≡◌, ℕ, ◌-◌, ◌*◌, ◌<◌, ◌≤◌, true, false, List, length, IfOk, Ok, MatchResult};
+ghost use Rattle.std.specs.Prelude.{◌≡◌, ℕ, ◌*◌, ◌<◌, ◌≤◌, List, length, IfOk, MatchResult};
 ghost use Rattle.file.specs.Packets.{packets};
 ghost use Rattle.file.specs.Spelling.{spelling_of};
 ghost use Rattle.link.specs.OfScripted.{new_link};
-ghost use Rattle.link.specs.declared.plain.PlainLink.{PlainLink as Queue};
-ghost use Rattle.link.specs.declared.scripted.ScriptedLink.{ScriptedLink as Scripted};
 ghost use Rattle.transfer.specs.Calls.{state_of};
-ghost use Rattle.delivery.specs.Follows.{Follows, Small};
+ghost use Rattle.delivery.specs.Follows.{Small};
 ghost use Rattle.delivery.specs.Outcome.{linked};
 ghost use Rattle.delivery.specs.Phases.{AdmitsOn, CarriesOut, Closes, Opens, SmallAfter};
-ghost use Rattle.delivery.specs.Rounds.{Course, closing};
 
 use super::exchange::Delivery;
 use super::outcome::Outcome;

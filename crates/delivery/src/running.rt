@@ -15,9 +15,10 @@ use refusal::Refusal;
 use source::{Plain, Woven};
 
 /// Carries the job's file over a transfer of its field and source, with its script on the data link, in at most 64,000
-/// rounds. Where it comes out whole, the file then stands at the start of the buffer, as it was put together from what was
-/// released; where the rounds are used up, the bytes of it that were released do. All else there is left. Refuses a buffer
-/// of fewer than 16,000 bytes, then what is no script, then a file over 16,000 bytes, and then leaves the buffer.
+/// rounds. Where it comes out whole, the file then stands at the start of the buffer, as it was put together from what
+/// was released; where the rounds are used up, the bytes of it that were released do. All else there is left. Refuses
+/// a buffer of fewer than 16,000 bytes, then what is no script, then a file over 16,000 bytes, and then leaves the
+/// buffer.
 pub fn run(job: Job<'_>, buffer: &mut [u8]) -> Result<Outcome, Refusal>
     ensures exact { result ≡ ran job.entry.field job.entry.source job.entry.script.now job.entry.file.now (length buffer.old) }
     ensures ends { EndsRightly job.entry.field job.entry.source job.entry.script.now job.entry.file.now buffer.old buffer.new result }

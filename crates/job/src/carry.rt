@@ -1,5 +1,5 @@
 //! A file's way: cut into packets, each sent in a frame to a receiver, and put together from what that releases.
-ghost use Rattle.std.specs.Prelude.{◌≡◌, ◌+◌, ◌*◌, ◌<◌, ◌≤◌, List, [], ◌++◌, length, take, Ok, MatchResult};
+ghost use Rattle.std.specs.Prelude.{◌≡◌, ◌+◌, ◌<◌, ◌≤◌, [], ◌++◌, length, take, Ok, MatchResult};
 ghost use Rattle.std.specs.Int.Digits.{AllBelowBase};
 ghost use Rattle.frame.specs.DataFrame.{reading};
 ghost use Rattle.file.specs.Packets.{packets};
@@ -24,6 +24,7 @@ pub(crate) fn carry<C: Carried>(
     ensures { MatchResult result (λ came. (came.0 ≡ all_fresh (packets (spelling_of C.Field.means.q) (length file.entry.bytes.now))) × (came.1.size ≡ length file.entry.bytes.now) × (take (length file.entry.bytes.now) buffer.new ≡ file.entry.bytes.now)) (λ _. ⊥) }
 {
     let mut receiver = Receiver::<C>::new();
+    // An array: below the program no memory is asked for.
     let mut numbers = [0; 4096];
     let mut filling = Filling::<C>::new();
     let mut tally = Tally::default();

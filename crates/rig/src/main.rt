@@ -50,13 +50,13 @@ fn draws<S: Source + Drop>(rt: &impl Print, mut source: S, words: &[&str]) -> an
 
 fn drive<L: Link + Drop>(rt: &impl Print, mut link: L, steps: &str) -> anyhow::Result<()> {
     let mut count = 0u8;
-    for step in steps.chars() {
+    for step in steps.bytes() {
         match step {
-            'p' => {
+            b'p' => {
                 link.put(&[count]);
                 count = count.wrapping_add(1);
             }
-            'x' => link.put(&[0; 401]),
+            b'x' => link.put(&[0; 401]),
             _ => take(rt, &mut link)?,
         }
     }
