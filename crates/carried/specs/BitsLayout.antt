@@ -6,17 +6,11 @@ use Rattle.std.specs.Int.Digits.{number_from_digits}
 use Rattle.std.proofs.lemmas.Nat.{shr-shr}
 use Rattle.std.proofs.lemmas.List.FromFn.{get_or-map-range_with_len, length-map-range_with_len, fill_by_all}
 use Rattle.std.proofs.lemmas.Int.Digits.{number_more}
-use Rattle.std.proofs.lemmas.List.{get_or_past, take_all}
+use Rattle.std.proofs.lemmas.List.{take_all}
 use Rattle.field.specs.Upto.{upto-at}
 use Rattle.carried.specs.Carries.{Lays, Under, packed, unpacked}
 use Rattle.carried.specs.Layouts.{bits_at, eight_a_byte}
 use Rattle.carried.specs.Places.{below, packed-at, unpacked-at, all-packed, all-unpacked}
-
--- a place past the end
-pub none : (xs : List ℕ) (k : ℕ) → length xs / 8 < k → 0 ≡ number_from_digits 2 (bits_at xs k)
-none xs k h =
-    let p : (j : ℕ) → slice_index xs (8 * k + j) ≡ 0 = λ j. get_or_past xs (8 * k + j) 0 (omega arith) in
-    omega (arith, p 0, p 1, p 2, p 3, p 4, p 5, p 6, p 7)
 
 -- without its last d binary digits, a number is the one that its other digits write
 leading : (ds : List ℕ) → ((k : ℕ) → slice_index ds k < 2) → (d m : ℕ) → m + d ≡ length ds → number_from_digits 2 ds / 2 ^ d ≡ number_from_digits 2 (take m ds)

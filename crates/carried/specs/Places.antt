@@ -1,8 +1,8 @@
 -- What the proofs of the three layouts share: their laws, from place to place.
-use Rattle.std.specs.Prelude.{◌≡◌, ℕ, ◌+◌, ◌-◌, ◌<◌, List, length, take, drop, slice_index}
+use Rattle.std.specs.Prelude.{◌≡◌, ℕ, ◌<◌, List, length, slice_index}
 use Rattle.std.proofs.Common.{sym, subst, inl, inr, arith}
 use Rattle.std.proofs.lemmas.List.FromFn.{get_or-map-range_with_len, length-map-range_with_len, fill_by_all}
-use Rattle.std.proofs.lemmas.List.{get_or_past, get_or-drop, take_rest}
+use Rattle.std.proofs.lemmas.List.{get_or_past}
 use Rattle.std.proofs.lemmas.Bool.{cases_lt}
 use Rattle.carried.specs.Carries.{Carries, Under, packed, unpacked}
 
@@ -37,7 +37,3 @@ all-packed c codes bytes n e each = fill_by_all (c.byte_of codes) bytes n 0 e ea
 pub all-unpacked : (c : Carries) (bytes codes : List ℕ) (n : ℕ) → length codes ≡ n → ((i : ℕ) → i < n → slice_index codes i ≡ c.code_of bytes i) → codes ≡ unpacked c n bytes
 unfolding unpacked
 all-unpacked c bytes codes n e each = fill_by_all (c.code_of bytes) codes n 0 e each
-
--- a place of what lies from a on
-pub rest_at : (xs : List ℕ) (a j : ℕ) → slice_index (take (length xs - a) (drop a xs)) j ≡ slice_index xs (a + j)
-rest_at xs a j = rw (take_rest, get_or-drop)

@@ -31,10 +31,12 @@ impl Carried for Bits {
     ghost lays = { eight_a_byte_lays };
 
     fn byte(codes: &[u16], k: usize) -> u8 {
+        // Past the end there are no codes; in the last group those that lack count as 0.
         if k > codes.len() / 8 {
             return 0;
         }
         let group = &codes[8 * k..];
+        // Eight terms: a loop takes as long and wants an invariant, and a fold takes a quarter longer.
         let high = 128 * bit(group, 0)
             + 64 * bit(group, 1)
             + 32 * bit(group, 2)

@@ -29,6 +29,7 @@ impl Carried for Residues {
     }
 
     fn code(bytes: &[u8], i: usize) -> u16 {
+        // Past the end there are no bytes; of the last pair one may lack, which counts as 0.
         if i > bytes.len() / 2 {
             return 0;
         }

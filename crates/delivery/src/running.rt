@@ -31,7 +31,8 @@ pub fn run(job: Job<'_>, buffer: &mut [u8]) -> Result<Outcome, Refusal>
     in_field(job.field, job.source, forward, file, buffer)
 }
 
-// The field that the job asks for. What was checked goes on to where it is used, two calls further: a struct of it would
+// The field that the job asks for. What was checked goes on to where it is used, two calls further: a struct of it
+// would
 // be taken apart there at once.
 fn in_field(
     field: FieldKind,

@@ -7,6 +7,8 @@
 mod row;
 mod table;
 
+// As in the crate of frames: neither of the two crates stands on the other.
+
 /// How many packets a row combines at most, and how many rows a table holds.
 pub const WINDOW: usize = 32;
 

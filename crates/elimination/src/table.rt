@@ -28,6 +28,7 @@ pub enum Verdict {
 }
 
 impl Table {
+    /// A table without rows.
     pub fn new() -> Table
         ensures exact { result ≡ no_rows 32 }
         ensures reduced { (m : Means) (start : ℕ) → Reduced m 32 start result }

@@ -1,4 +1,5 @@
-//! The definitions that the contracts use, read again by theorems: worked examples, which are tests of the code too, what
+//! The definitions that the contracts use, read again by theorems: worked examples, which are tests of the code too,
+//! what
 //! meets the promises, and what does not.
 #![tactic(auto)]
 

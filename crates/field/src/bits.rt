@@ -7,6 +7,7 @@ ghost use Rattle.field.specs.Remainders.{all_laws};
 use super::Field;
 use super::binary::sum;
 
+/// The field of two codes.
 pub struct Bits;
 
 impl Field for Bits {

@@ -15,6 +15,7 @@ use super::binary::sum;
 use logarithms::logarithm;
 use powers::power;
 
+/// The field of bytes.
 pub struct Bytes;
 
 impl Field for Bytes {

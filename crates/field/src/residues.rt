@@ -6,6 +6,7 @@ ghost use Rattle.field.specs.Remainders.{all_laws};
 
 use super::Field;
 
+/// The field of the integers modulo 257.
 pub struct Residues;
 
 impl Field for Residues {

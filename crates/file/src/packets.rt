@@ -21,7 +21,7 @@ pub fn packet_count<F: Field>(size: u32) -> u32
 }
 
 /// Packet `number` of the file, which is zeros where the file ended before it.
-pub fn packet<F: Field>(file: &[u8], number: u32) -> Result<[u16; 128], Refusal>
+pub fn packet<F: Field>(file: &[u8], number: u32) -> Result<[u16; SYMBOLS], Refusal>
     ensures exact { result ≡ (if nat_lt 16000 (length file.now) then Err LongFile else Ok (packet_of (spelling_of F.means.q) file.now number)) }
     ensures codes { IfOk result (λ p. (length p ≡ 128) × AllBelowBase F.means.q p) }
     ensures carries { OnOk result (File file.now) }

@@ -1,5 +1,4 @@
 pub mod Frames
 pub mod Heads
-pub mod Reports
 pub mod Rules
 pub mod Verdicts

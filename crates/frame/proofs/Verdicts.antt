@@ -1,5 +1,5 @@
 -- What an answer says when it comes from the first refusal that holds.
-use Rattle.std.proofs.Common.{◌≡◌, ℕ, ◌≤◌, List, ◌++◌, length, drop, IfOk, IfErr, Some, None, Ok, Option, Result, sym, refl, ap, subst, arith}
+use Rattle.std.proofs.Common.{◌≡◌, ℕ, ◌≤◌, List, ◌++◌, length, drop, IfOk, Some, None, Ok, Option, Result, sym, refl, ap, subst, arith}
 use Rattle.std.proofs.lemmas.Bool.{cond-true, le-leb}
 use Rattle.refusal.specs.declared.Refusal.{Refusal}
 use Rattle.frame.specs.Head.{first, too_short, verdict, written}
@@ -27,8 +27,3 @@ verdict_made P (Some x) a r e h = subst (λ v. IfOk v P) (sym e) tt
 pub written_made : (P : ℕ → List ℕ → Type 0) (o : Option Refusal) (len : ℕ) (frame buffer : List ℕ) (r : Result ℕ Refusal) (out : List ℕ) → (r, out) ≡ written o len frame buffer → (o ≡ None → P len (frame ++ drop len buffer)) → IfOk r (λ n. P n out)
 written_made P None len frame buffer r out e h = subst (λ (v : Result ℕ Refusal × List ℕ). IfOk v.0 (λ n. P n v.1)) (sym e) (h refl)
 written_made P (Some x) len frame buffer r out e h = subst (λ (v : Result ℕ Refusal × List ℕ). IfOk v.0 (λ n. P n v.1)) (sym e) tt
-
--- and where none was
-pub written-refused : (o : Option Refusal) (len : ℕ) (frame buffer : List ℕ) (r : Result ℕ Refusal) (out : List ℕ) → (r, out) ≡ written o len frame buffer → IfErr r (λ _. out ≡ buffer)
-written-refused None len frame buffer r out e = subst (λ (v : Result ℕ Refusal × List ℕ). IfErr v.0 (λ _. v.1 ≡ buffer)) (sym e) tt
-written-refused (Some x) len frame buffer r out e = subst (λ (v : Result ℕ Refusal × List ℕ). IfErr v.0 (λ _. v.1 ≡ buffer)) (sym e) refl

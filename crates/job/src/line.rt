@@ -8,7 +8,7 @@ use file::FILE_MOST;
 use link::ScriptedLink;
 use refusal::Refusal;
 
-/// The field a job asks for, numbered as the kinds of data frames are.
+/// The field a job asks for; its digit is the kind of its data frames.
 #[derive(Clone, Copy, PartialEq, Eq, Debug)]
 pub enum FieldKind {
     Bits,
@@ -73,7 +73,7 @@ pub fn parse(input: &[u8]) -> Result<Job<'_>, Refusal>
     };
     let field = FieldKind::try_from(*field)?;
     let source = SourceKind::try_from(*source)?;
-    // A link that opens with the script says that it is one.
+    // A link opens with a script and with nothing else.
     ScriptedLink::new(script)?;
     let file = ShortFile::new(file)?.bytes;
     Ok(Job {
@@ -111,7 +111,7 @@ fn split_line(input: &[u8]) -> Option<(&[u8], &[u8])>
     Some((&input[..end], &input[end + 1..]))
 }
 
-// The place of the first newline.
+// The place of the first newline. A function of its own: within the other one its proof does not close.
 fn find_newline(input: &[u8]) -> Option<usize>
     ensures { result ≡ position (λ b. b == 10) input.now }
 {

@@ -26,6 +26,7 @@ impl Script {
         if script.is_empty() || script.len() > MOST {
             return Err(Refusal::BadScript);
         }
+        // By its place, since nothing is known of what is written through a zip.
         let mut letters = [Letter::Lose; MOST];
         for (i, byte) in script.iter().enumerate() {
             letters[i] = Letter::try_from(*byte)?;

@@ -2,7 +2,7 @@
 ghost use Rattle.std.specs.Prelude.{◌≡◌, ◌≤◌, [], ◌++◌, length, drop};
 ghost use Rattle.link.specs.Ring.{frame, padded, entry, entry_of};
 
-/// The longest frame that a link carries.
+/// The longest frame that a link carries, which no frame of the crate of frames exceeds: a link stands on no frames.
 pub(crate) const LIMIT: usize = 400;
 
 /// A frame: the first bytes of its memory.

@@ -1,4 +1,5 @@
-//! The receiver's calls, and what they promise over every log of calls: `specs/Log.antt` and `specs/Promise.antt` say it,
+//! The receiver's calls, and what they promise over every log of calls: `specs/Log.antt` and `specs/Promise.antt` say
+//! it,
 //! `starts` and `goes_on` tie a receiver to its log, and `stands` has the promise.
 ghost use Rattle.std.specs.Prelude.{◌≡◌, List, [], ◌∷◌, IfOk, OnErr};
 ghost use Rattle.receiver.specs.Arrival.{arrival, arrived};
@@ -54,7 +55,8 @@ impl<C: Carried> Receiver<C> {
         self.state.report()
     }
 
-    /// Writes the unseen numbers that an accepted frame reached at the start of the number buffer, which has room for 32,
+    /// Writes the unseen numbers that an accepted frame reached at the start of the number buffer, which has room for
+    /// 32,
     /// in rising order, and answers how many they are; the rest is left.
     pub fn missing(&self, numbers: &mut [u32]) -> Result<usize, Refusal>
         ensures exact { (result, numbers.new) ≡ listed 32 self.now.state numbers.old }

@@ -195,7 +195,7 @@ impl State {
         if numbers.len() < WINDOW {
             return Err(Refusal::ShortBuffer);
         }
-        // By its place, since nothing is known of what is written through a zip.
+        // By its place, since nothing is known of what is written through a zip; the count is the answer.
         let mut count = 0;
         for k in (self.released..self.top).filter(|k| !self.sees(*k)) {
             numbers[count] = k;

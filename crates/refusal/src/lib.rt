@@ -10,6 +10,7 @@ ghost use Rattle.refusal.specs.Numbers.{numbered};
 use std::error::Error;
 use std::fmt;
 
+/// The reason for a refusal, in the order of the checks within each group.
 #[derive(Clone, Copy, PartialEq, Eq, Debug)]
 pub enum Refusal {
     // The calling program.

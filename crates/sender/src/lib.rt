@@ -1,7 +1,8 @@
 //! The sender: packets admitted in order, and frames that combine those of the window.
 //!
 //! A sender counts the admitted packets, and hears from reports how many packets the far end has released and which is
-//! the oldest that it has not seen. Its window is the packets from the oldest unseen one on; what lies below is dropped.
+//! the oldest that it has not seen. Its window is the packets from the oldest unseen one on; what lies below is
+//! dropped.
 //! A sender is open until it is sealed: a sealed one admits nothing.
 #![tactic(auto)]
 
@@ -70,7 +71,8 @@ impl<P, C: Carried, S: Source> Sender<P, C, S> {
         write_data::<C>(&data, frame)
     }
 
-    /// Takes a report in, and answers the greatest released and the greatest oldest unseen number heard. Refuses what is
+    /// Takes a report in, and answers the greatest released and the greatest oldest unseen number heard. Refuses what
+    /// is
     /// no report, then one whose numbers are out of order or past what was admitted, and then changes nothing.
     pub fn hear(&mut self, report: &[u8]) -> Result<(u32, u32), Refusal>
         ensures exact { (result, self.new.window) ≡ hearing self.old.window report.now }

@@ -45,7 +45,7 @@ impl Window {
     }
 }
 
-// The symbols of a packet, where these are some.
+// These as the symbols of a packet, where they are 128 codes.
 pub(crate) fn as_packet<F: Field>(packet: &[u16]) -> Option<&[u16; SYMBOLS]>
     ensures { MatchOption result (is_packet_lem F.Field.means.q packet.now ≡ false) (λ symbols. (is_packet_lem F.Field.means.q packet.now ≡ true) × (symbols.now ≡ packet.now)) }
 {

@@ -18,7 +18,7 @@ mod woven;
 pub use plain::Plain;
 pub use woven::Woven;
 
-// The number of slots that a draw fills.
+// The number of slots that a draw fills, as many as a frame has: a source stands on no frames.
 const SLOTS: usize = 32;
 
 /// A source of coefficients.

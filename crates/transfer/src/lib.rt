@@ -1,7 +1,9 @@
 //! A transfer: both ends of one stream, and a link each way.
 //!
-//! Data frames go forward from the sender to the receiver, and reports come back. Of the links no more is known than that
-//! they make up no frame. `specs/Log.antt` and `specs/Promise.antt` say what a transfer promises over every log of calls;
+//! Data frames go forward from the sender to the receiver, and reports come back. Of the links no more is known than
+//! that
+//! they make up no frame. `specs/Log.antt` and `specs/Promise.antt` say what a transfer promises over every log of
+//! calls;
 //! `starts` and `goes_on` tie a transfer to its log, and `stands` has the promise.
 #![tactic(auto)]
 
@@ -73,7 +75,8 @@ impl<C: Carried, S: Source, D: Link, R: Link> OpenTransfer<C, S, D, R> {
         }
     }
 
-    /// Hands a packet to the sender, and answers how many were admitted. Refuses what the sender refuses, and then changes
+    /// Hands a packet to the sender, and answers how many were admitted. Refuses what the sender refuses, and then
+    /// changes
     /// nothing.
     pub fn admit(&mut self, packet: &[u16]) -> Result<u32, Refusal>
         ensures exact { called result (state_of self.new) ≡ admits 32 ⟦<Self as Joined>⟧.parts (state_of self.old) packet.now }
@@ -121,7 +124,8 @@ impl<P, C: Carried, S: Source, D: Link, R: Link> Transfer<P, C, S, D, R> {
     }
 
     /// Takes a frame, if there is one, off the forward link and into the receiver, whose answer it gives, and puts the
-    /// report on the reverse link, whatever the answer. The released packets are written to the number buffer. Refuses a
+    /// report on the reverse link, whatever the answer. The released packets are written to the number buffer. Refuses
+    /// a
     /// number buffer without room for 32 packets, before it takes a frame, and then changes nothing; where the receiver
     /// refuses the frame, the frame is gone, and the report is put all the same.
     pub fn fetch(&mut self, numbers: &mut [u16]) -> Result<Option<Answer>, Refusal>
@@ -143,7 +147,8 @@ impl<P, C: Carried, S: Source, D: Link, R: Link> Transfer<P, C, S, D, R> {
         answer.map(Some)
     }
 
-    /// Takes a report, if there is one, off the reverse link and into the sender, whose answer it gives. A report that the
+    /// Takes a report, if there is one, off the reverse link and into the sender, whose answer it gives. A report that
+    /// the
     /// sender refuses is gone, and changes nothing else.
     pub fn hear(&mut self) -> Result<Option<(u32, u32)>, Refusal>
         ensures exact { called result (state_of self.new) ≡ hears 32 ⟦<Self as Joined>⟧.parts (state_of self.old) }
