@@ -7,7 +7,7 @@ ghost use Rattle.receiver.specs.Log.{Arrival, call};
 ghost use Rattle.receiver.specs.Promise.{Promise, RightReport, RightList};
 ghost use Rattle.receiver.specs.Reports.{reported, listed};
 ghost use Rattle.receiver.specs.Run.{Run};
-ghost use Rattle.receiver.specs.Start.{at_first, Sound};
+ghost use Rattle.receiver.specs.Start.{at_first, Bounded, Sound};
 
 use super::state::{Answer, State};
 use carried::Carried;
@@ -19,6 +19,7 @@ use std::marker::PhantomData;
 pub struct Receiver<C> {
     state: State,
     field: PhantomData<C>,
+    ghost bounded: { Bounded 32 state },
 }
 
 impl<C: Carried> Receiver<C> {

@@ -5,7 +5,7 @@ ghost use Rattle.receiver.specs.Arrival.{arrival, fresh, accepted, arrived};
 ghost use Rattle.receiver.specs.Reach.{reach};
 ghost use Rattle.receiver.specs.Release.{ready, advanced, releasing};
 ghost use Rattle.receiver.specs.Reports.{sees, reported, listed};
-ghost use Rattle.receiver.specs.Start.{at_first};
+ghost use Rattle.receiver.specs.Start.{at_first, Bounded};
 ghost use Rattle.receiver.specs.declared.state.Answer.TheVariants.{Fresh};
 
 use super::readable::Readable;
@@ -68,6 +68,13 @@ impl State {
             table: Table::new(),
             kept: [[0; SYMBOLS]; WINDOW],
         }
+    }
+
+    // What every state keeps, told to callers, who see no invariant.
+    fn bounds(&self)
+        ensures { Bounded 32 self.now }
+    {
+        let _ = &self.released;
     }
 
     // Refuses a frame that has packets no longer kept, or past the table's end.
@@ -164,13 +171,17 @@ impl State {
         frame: &[u8],
         numbers: &mut [u16],
     ) -> Result<Answer, Refusal>
-        ensures { arrival result self.new numbers.new ≡ arrived C.Field.means C.carries 32 self.old frame.now numbers.old }
+        ensures exact { arrival result self.new numbers.new ≡ arrived C.Field.means C.carries 32 self.old frame.now numbers.old }
+        ensures bounded { Bounded 32 self.new }
     {
+        self.bounds();
         let Some(numbers) = numbers.first_chunk_mut::<ROOM>() else {
             return Err(Refusal::ShortBuffer);
         };
         let frame = Readable::read::<C>(frame)?;
-        self.accept::<C>(&frame, numbers)
+        let answer = self.accept::<C>(&frame, numbers);
+        self.bounds();
+        answer
     }
 
     // Whether packet k is released, or a row begins there.

@@ -13,9 +13,9 @@ returns g c =
     let after = arrival c.arrive.result c.arrive.new.self c.arrive.new.numbers in
     let this = call bytes numbers c.arrive.result c.arrive.new.numbers in
     record {
-      exact = c.arrive.ensures;
-      unchanged = arrived_unchanged m carries 32 s bytes numbers after c.arrive.ensures;
-      reduced = arrived-sound m laws 32 (lit< tt) s carries bytes numbers after c.arrive.ensures (read-only-proper m carries 32 lays refl bytes);
-      goes_on = λ log run. (s, run, c.arrive.ensures);
-      stands = λ log run. promised m laws carries 32 (lit< tt) lays refl (this ∷ log) c.arrive.new.self (s, run, c.arrive.ensures);
+      exact = c.arrive.ensures.exact;
+      unchanged = arrived_unchanged m carries 32 s bytes numbers after c.arrive.ensures.exact;
+      reduced = arrived-sound m laws 32 (lit< tt) s carries bytes numbers after c.arrive.ensures.exact (read-only-proper m carries 32 lays refl bytes);
+      goes_on = λ log run. (s, run, c.arrive.ensures.exact);
+      stands = λ log run. promised m laws carries 32 (lit< tt) lays refl (this ∷ log) c.arrive.new.self (s, run, c.arrive.ensures.exact);
     }

@@ -5,8 +5,8 @@ use Rattle.receiver.specs.Arrival.{arrival, accepted}
 use Rattle.receiver.proofs.Widening.{arrived_unread, arrived_in}
 use Rattle.receiver.proofs.state.State.arrive.Goals as goal
 
-pub returns-in_err-frame : goal.returns-in_err-frame
-returns-in_err-frame g c =
+pub returns-in_err-frame-clause-exact : goal.returns-in_err-frame-clause-exact
+returns-in_err-frame-clause-exact g c =
     let s = c.args.self.now in let numbers = c.args.numbers.now in let e = c.in_err-frame.field-0.0 in
     let chunk = c.in-Some.ensures.cases in
     let p = err_from_is_err_and c.from_residual.result c.from_residual.ensures.1 in
@@ -15,12 +15,12 @@ returns-in_err-frame g c =
     ap (λ r. arrival r s (c.in-Some.numbers.now ++ drop 4096 numbers)) refused ∙ ap (arrival (Err e) s) left
     ∙ arrived_unread g.C.Field.means g.C.Carried.carries 32 s c.args.frame.now numbers chunk.enough e (sym c.read.ensures ∙ c.in_err-frame.was)
 
-pub returns : goal.returns
-returns g c =
+pub returns-clause-exact : goal.returns-clause-exact
+returns-clause-exact g c =
     let s = c.args.self.now in let numbers = c.args.numbers.now in let d = c.in_ok-frame.frame in
     let chunk = c.in-Some.ensures.cases in
-    arrived_in g.C.Field.means g.C.Carried.carries 32 s c.args.frame.now numbers chunk.enough d (arrival c.accept.result c.accept.new.self c.accept.new.numbers)
+    arrived_in g.C.Field.means g.C.Carried.carries 32 s c.args.frame.now numbers chunk.enough d (arrival c.accept-answer.result c.accept-answer.new.self c.accept-answer.new.numbers)
     (sym c.read.ensures ∙ c.in_ok-frame.was)
-    (c.accept.ensures ∙ ap (accepted g.C.Field.means 32 s d) chunk.same)
+    (c.accept-answer.ensures ∙ ap (accepted g.C.Field.means 32 s d) chunk.same)
     (let enough = chunk.enough in
-    let long : length c.accept.new.numbers ≡ 4096 = omega (arith, length-append c.accept.new.numbers (drop 4096 numbers), length-drop 4096 numbers) in long)
+    let long : length c.accept-answer.new.numbers ≡ 4096 = omega (arith, length-append c.accept-answer.new.numbers (drop 4096 numbers), length-drop 4096 numbers) in long)
