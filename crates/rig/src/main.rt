@@ -8,37 +8,58 @@
 use link::{Link, PlainLink, ScriptedLink};
 use refusal::Refusal;
 use source::{Plain, Source, Woven};
-use std::alloc::Global;
 use std::io;
+use std::str::SplitWhitespace;
 
 fn main(rt: HostRuntime) -> anyhow::Result<()> {
     for line in rt.lines(rt.alloc()) {
         let line = line?;
-        command(&rt, rt.alloc(), line.as_str())?;
+        command(&rt, line.as_str())?;
     }
     Ok(())
 }
 
-fn command(rt: &impl Print, alloc: Global, line: &str) -> anyhow::Result<()> {
-    let words: Vec<&str> = line.split_whitespace().collect(alloc)?;
-    match words.as_slice() {
-        ["plain", words @ ..] => draws(rt, Plain::new(), words),
-        ["woven", seed, words @ ..] => draws(rt, Woven::new(seed.parse::<u32>()?), words),
-        ["queue", steps, ..] => drive(rt, PlainLink::new(), steps),
-        [_, script, steps, ..] => match ScriptedLink::new(script.as_bytes()) {
-            Ok(link) => drive(rt, link, steps),
-            Err(refusal) => Ok(show_refusal(rt, refusal)?),
-        },
-        _ => Ok(()),
+// Words are read one at a time, and not into a list: a line may have any number of them.
+fn command(rt: &impl Print, line: &str) -> anyhow::Result<()> {
+    let mut words = line.split_whitespace();
+    match words.next() {
+        Some("plain") => draws(rt, Plain::new(), words),
+        Some("woven") => {
+            let Some(seed) = words.next() else {
+                return Ok(());
+            };
+            draws(rt, Woven::new(seed.parse::<u32>()?), words)
+        }
+        Some("queue") => {
+            let Some(steps) = words.next() else {
+                return Ok(());
+            };
+            drive(rt, PlainLink::new(), steps)
+        }
+        _ => scripted(rt, words),
     }
 }
 
-fn draws<S: Source + Drop>(rt: &impl Print, mut source: S, words: &[&str]) -> anyhow::Result<()> {
-    let [order, widths @ ..] = words else {
+fn scripted(rt: &impl Print, mut words: SplitWhitespace<'_>) -> anyhow::Result<()> {
+    let (Some(script), Some(steps)) = (words.next(), words.next()) else {
+        return Ok(());
+    };
+    match ScriptedLink::new(script.as_bytes()) {
+        Ok(link) => drive(rt, link, steps),
+        Err(refusal) => Ok(show_refusal(rt, refusal)?),
+    }
+}
+
+fn draws<S: Source + Drop>(
+    rt: &impl Print,
+    mut source: S,
+    mut words: SplitWhitespace<'_>,
+) -> anyhow::Result<()> {
+    let Some(order) = words.next() else {
         return Ok(());
     };
     let order = order.parse::<u16>()?;
-    for width in widths {
+    for width in words {
         let mut slots = [0; 32];
         match source.draw(order, width.parse::<usize>()?, &mut slots) {
             Ok(()) => println!(rt; "{slots:?}")?,
