@@ -1,5 +1,5 @@
 -- What the program writes of a job that was read.
-use Rattle.std.proofs.Common.{◌≡◌, ℕ, true, eqb, leb, List, [], ◌∷◌, ◌++◌, length, take, drop, codes, Some, None, Ok, Err, Option, Result, sym, refl, ap, ◌∙◌, subst, MatchResult}
+use Rattle.std.proofs.Common.{◌≡◌, ℕ, true, eqb, leb, List, [], ◌∷◌, ◌++◌, length, take, drop, codes, Some, None, Ok, Err, Option, Result, sym, refl, ap, ◌∙◌, subst}
 use Rattle.std.proofs.lemmas.List.{take_at}
 use Rattle.std.proofs.lemmas.Bool.{cond_both, cond-true, leb-true}
 use Rattle.refusal.specs.declared.Refusal.{Refusal}
@@ -17,8 +17,7 @@ use Rattle.job.specs.Line.{split, field_kind, source_kind, Asked, checked, kinds
 use Rattle.delivery.specs.Outcome.{outcome_of, log_of, ran, EndsRightly, setup_of, Ends}
 use Rattle.delivery.specs.Rounds.{done}
 use Rattle.job.specs.Counts.{counts_text}
-use Rattle.job.specs.Output.{file_text, refused_text}
-use Rattle.refusal.specs.Numbers.{numbered}
+use Rattle.job.specs.Output.{file_text}
 use Rattle.delivery.specs.Output.{shown_ending, shown_text, Within}
 
 -- what was read has a script and is not too long
@@ -53,7 +52,7 @@ module _ (input : List ℕ) (job : Asked) (is : parsed input ≡ Ok job) where
   ran-is : ran job.field job.source job.script job.file 16000 ≡ Ok (outcome_of job.file (log_of job.field job.source job.script job.file))
   ran-is = let good = subst Good is (parsed_good input) in cond-true (proper 64 job.script) _ _ good.0 ∙ cond-true (leb (length job.file) 16000) _ _ good.1
 
-  never-refused : (why : Refusal) → Err why ≡ ran job.field job.source job.script job.file 16000 → ⊥
+  pub never-refused : (why : Refusal) → Err why ≡ ran job.field job.source job.script job.file 16000 → ⊥
   never-refused why e = cc (e, ran-is)
 
   module _ (o : Outcome) (e : Ok o ≡ ran job.field job.source job.script job.file 16000) where
@@ -61,14 +60,14 @@ module _ (input : List ℕ) (job : Asked) (is : parsed input ≡ Ok job) where
     outcome-known = cc (e, ran-is)
 
     -- the file fits the buffer
-    fits : Within 16000 o.ending
+    pub fits : Within 16000 o.ending
     fits =
         let log = log_of job.field job.source job.script job.file in
         subst (λ (x : Outcome). Within 16000 x.ending) (sym outcome-known)
         (cond_both (done log) (Whole (length job.file)) (Spent (length (released (arrivals log)))) (Within 16000) (λ _. leb-true (length job.file) 16000 (subst Good is (parsed_good input)).1) (λ _. tt))
 
     -- what is shown is what the job's rounds come to
-    shown-right : (before after : List ℕ) → EndsRightly job.field job.source job.script job.file before after (Ok o) → shown_text after o ≡ answered input
+    pub shown-right : (before after : List ℕ) → EndsRightly job.field job.source job.script job.file before after (Ok o) → shown_text after o ≡ answered input
     shown-right before after right =
         ap (λ (x : List ℕ). counts_text (codes "sent") o.tally ++ x) (subst (λ (x : Outcome). Right x.ending) (sym outcome-known) go right)
         ∙ ap (outcome_text job.file) outcome-known
@@ -84,10 +83,3 @@ module _ (input : List ℕ) (job : Asked) (is : parsed input ≡ Ok job) where
             let log = log_of job.field job.source job.script job.file in
             cond_both (done log) (Whole (length job.file)) (Spent (length (released (arrivals log)))) Right
             (λ _ h. ap file_text (ap (take (length job.file)) h ∙ take_at job.file (drop (length job.file) before) (length job.file) refl)) (λ _ _. refl)
-
-  -- what a run answers is shown rightly
-  pub run_shown : (r : Result Outcome Refusal) → r ≡ ran job.field job.source job.script job.file 16000 → (before after : List ℕ)
-      → EndsRightly job.field job.source job.script job.file before after r
-      → MatchResult r (λ o. Within 16000 o.ending × (shown_text after o ≡ answered input)) (λ why. refused_text (numbered why) ≡ answered input)
-  run_shown (Ok o) e before after right = (fits o e, shown-right o e before after right)
-  run_shown (Err why) e before after right = absurd (never-refused why e)

@@ -1,11 +1,10 @@
 //! The program's answer to its input.
-ghost use Rattle.std.specs.Prelude.{◌≡◌, IfOk, MatchResult};
-ghost use Rattle.refusal.specs.Numbers.{numbered};
-ghost use Rattle.job.specs.Answer.{answered, copied_text};
-ghost use Rattle.job.specs.Output.{refused_text, whole_text};
+ghost use Rattle.std.specs.Prelude.{◌≡◌, ◌<◌, length, IfOk, MatchResult};
+ghost use Rattle.job.specs.Answer.{answered, carried_text, copied_text};
+ghost use Rattle.job.specs.Output.{whole_text};
 
 use super::carry::carry;
-use super::line::{FieldKind, ShortFile, parse};
+use super::line::{FieldKind, Job, ShortFile, parse};
 use super::output;
 use super::output::Copied;
 use carried::Carried;
@@ -18,18 +17,22 @@ use std::alloc::{AllocError, Global};
 pub fn answer(heap: Global, input: &[u8]) -> Result<Vec<u8>, AllocError>
     ensures { IfOk result (λ v. v.items ≡ answered input.now) }
 {
+    let job = match parse(input) {
+        Ok(job) => job,
+        Err(refusal) => return output::refused(heap, refusal),
+    };
+    // Behind the parse, since filling it takes longer than all else that a refused job needs.
     let mut buffer = [0; FILE_MOST];
-    match carried(input, &mut buffer) {
+    match carried(job, &mut buffer) {
         Ok(copied) => output::whole(heap, copied),
         Err(refusal) => output::refused(heap, refusal),
     }
 }
 
-// Reads the job, and carries its file in the field that it asks for.
-fn carried<'a>(input: &[u8], buffer: &'a mut [u8; FILE_MOST]) -> Result<Copied<'a>, Refusal>
-    ensures { MatchResult result (λ came. whole_text came.packets came.tally came.file.now ≡ answered input.now) (λ refusal. refused_text (numbered refusal) ≡ answered input.now) }
+// Carries the job's file in the field that it asks for.
+fn carried<'a>(job: Job<'_>, buffer: &'a mut [u8; FILE_MOST]) -> Result<Copied<'a>, Refusal>
+    ensures { MatchResult result (λ came. whole_text came.packets came.tally came.file.now ≡ carried_text job.entry.field job.entry.file.now) (λ _. 16000 < length job.entry.file.now) }
 {
-    let job = parse(input)?;
     let file = ShortFile::new(job.file)?;
     // A match, since each arm is one function at another type, which a closure cannot be.
     match job.field {
