@@ -93,9 +93,10 @@ fn gathered<F: Field>(rows: &[Row]) -> Table
 fn unload(table: &mut Table, packets: &mut Packets)
     ensures { packets.new ≡ unloaded 32 table.old packets.old }
 {
-    for (k, place) in packets.packets.iter_mut().enumerate() {
-        if let Some(packet) = table.take_solved(k as u32) {
-            *place = packet;
+    // By its number: that each packet goes to the first place, as an edit has it, cannot be said over the places.
+    for k in 0..WINDOW as u32 {
+        if let Some(packet) = table.take_solved(k) {
+            packets.packets[k as usize] = packet;
         }
     }
 }
